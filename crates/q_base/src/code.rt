@@ -1,0 +1,281 @@
+ghost use Rattle.std.specs.Prelude.{◌≡◌};
+ghost use Rattle.q_base.specs.Texts.{sqlstate_of, template_of};
+
+/// The cause of a refusal or of a warning: one variant for each text, so that an SQLSTATE with
+/// several texts has several variants.
+///
+/// The SQLSTATEs are PostgreSQL's (its manual, "PostgreSQL Error Codes"); the texts follow PostgreSQL's
+/// own where it has one, and are this project's own elsewhere.
+#[derive(Clone, Copy, Debug, PartialEq, Eq)]
+pub enum Code {
+    CachedPlanChanged,
+    ArithmeticNotSupported,
+    SumBigintNotSupported,
+    ColumnTypeUsedByView,
+    OrderOrLimitInView,
+    LastColumn,
+    NotBuilt,
+    OnlySelectBound,
+    ViewOnTemporaryTable,
+    TemporaryMove,
+    SmallintOutOfRange,
+    IntegerOutOfRange,
+    BigintOutOfRange,
+    ValueOutOfRange,
+    DivisionByZero,
+    InvalidSettingValue,
+    NegativeLimit,
+    NegativeOffset,
+    InvalidTextForType,
+    NullInColumn,
+    NullsStored,
+    DuplicateKey,
+    UniqueIndexRefused,
+    NotUpdatableScan,
+    HeldCursor,
+    NotPositioned,
+    AlreadyInTransaction,
+    OnlyInBlock,
+    NoTransaction,
+    FailedBlock,
+    UnknownStatement,
+    ObjectHasDependents,
+    ColumnHasDependents,
+    IndexOfConstraint,
+    UnknownCursor,
+    UnknownPortal,
+    UnknownSavepoint,
+    UnknownSchema,
+    NoSchemaSelected,
+    SyntaxError,
+    WrongParameterCount,
+    IdentifierTooLong,
+    ColumnSpecifiedTwice,
+    ColumnExists,
+    AmbiguousColumn,
+    UnknownColumn,
+    UnknownItemColumn,
+    UnknownRelationColumn,
+    UnknownIndex,
+    UnknownType,
+    UnknownSetting,
+    ItemNamedTwice,
+    AmbiguousOperator,
+    AmbiguousMinus,
+    UngroupedColumn,
+    AggregateNotAllowed,
+    ArgumentNotBoolean,
+    ColumnTypeMismatch,
+    ParameterTypeMismatch,
+    NotATable,
+    NotAView,
+    NotAnIndex,
+    UnknownOperator,
+    UnknownMinus,
+    UnknownFunction,
+    UnacceptableSchemaName,
+    UnknownRelation,
+    MissingFromEntry,
+    UnknownParameter,
+    DuplicateCursor,
+    DuplicatePortal,
+    DuplicateStatement,
+    DuplicateSchema,
+    DuplicateRelation,
+    OrderPositionMissing,
+    DistinctOrderNotListed,
+    ScrollConflict,
+    SensitivityConflict,
+    TwoPrimaryKeys,
+    ColumnInPrimaryKey,
+    ViewColumnsChanged,
+    TemporaryInNamedSchema,
+    RelationInTemporarySchema,
+    RecursiveView,
+    UntypedParameter,
+    LimitExceeded,
+    StackDepthExceeded,
+    ForwardOnly,
+    PortalCannotRun,
+    ObjectInUse,
+}
+
+impl Code {
+    /// The five characters of the SQLSTATE.
+    pub fn sqlstate(self) -> &'static str
+        ensures { result.now ≡ sqlstate_of self }
+    {
+        match self {
+            Code::CachedPlanChanged
+            | Code::ArithmeticNotSupported
+            | Code::SumBigintNotSupported
+            | Code::ColumnTypeUsedByView
+            | Code::OrderOrLimitInView
+            | Code::LastColumn
+            | Code::NotBuilt
+            | Code::OnlySelectBound
+            | Code::ViewOnTemporaryTable
+            | Code::TemporaryMove => "0A000",
+            Code::SmallintOutOfRange
+            | Code::IntegerOutOfRange
+            | Code::BigintOutOfRange
+            | Code::ValueOutOfRange => "22003",
+            Code::DivisionByZero => "22012",
+            Code::InvalidSettingValue => "22023",
+            Code::NegativeLimit => "2201W",
+            Code::NegativeOffset => "2201X",
+            Code::InvalidTextForType => "22P02",
+            Code::NullInColumn | Code::NullsStored => "23502",
+            Code::DuplicateKey | Code::UniqueIndexRefused => "23505",
+            Code::NotUpdatableScan | Code::HeldCursor | Code::NotPositioned => "24000",
+            Code::AlreadyInTransaction => "25001",
+            Code::OnlyInBlock | Code::NoTransaction => "25P01",
+            Code::FailedBlock => "25P02",
+            Code::UnknownStatement => "26000",
+            Code::ObjectHasDependents | Code::ColumnHasDependents | Code::IndexOfConstraint =>
+                "2BP01",
+            Code::UnknownCursor | Code::UnknownPortal => "34000",
+            Code::UnknownSavepoint => "3B001",
+            Code::UnknownSchema | Code::NoSchemaSelected => "3F000",
+            Code::SyntaxError | Code::WrongParameterCount => "42601",
+            Code::IdentifierTooLong => "42622",
+            Code::ColumnSpecifiedTwice | Code::ColumnExists => "42701",
+            Code::AmbiguousColumn => "42702",
+            Code::UnknownColumn | Code::UnknownItemColumn | Code::UnknownRelationColumn => "42703",
+            Code::UnknownIndex | Code::UnknownType | Code::UnknownSetting => "42704",
+            Code::ItemNamedTwice => "42712",
+            Code::AmbiguousOperator | Code::AmbiguousMinus => "42725",
+            Code::UngroupedColumn | Code::AggregateNotAllowed => "42803",
+            Code::ArgumentNotBoolean | Code::ColumnTypeMismatch | Code::ParameterTypeMismatch =>
+                "42804",
+            Code::NotATable | Code::NotAView | Code::NotAnIndex => "42809",
+            Code::UnknownOperator | Code::UnknownMinus | Code::UnknownFunction => "42883",
+            Code::UnacceptableSchemaName => "42939",
+            Code::UnknownRelation | Code::MissingFromEntry => "42P01",
+            Code::UnknownParameter => "42P02",
+            Code::DuplicateCursor | Code::DuplicatePortal => "42P03",
+            Code::DuplicateStatement => "42P05",
+            Code::DuplicateSchema => "42P06",
+            Code::DuplicateRelation => "42P07",
+            Code::OrderPositionMissing | Code::DistinctOrderNotListed => "42P10",
+            Code::ScrollConflict | Code::SensitivityConflict => "42P11",
+            Code::TwoPrimaryKeys
+            | Code::ColumnInPrimaryKey
+            | Code::ViewColumnsChanged
+            | Code::TemporaryInNamedSchema
+            | Code::RelationInTemporarySchema => "42P16",
+            Code::RecursiveView => "42P17",
+            Code::UntypedParameter => "42P18",
+            Code::LimitExceeded => "54000",
+            Code::StackDepthExceeded => "54001",
+            Code::ForwardOnly | Code::PortalCannotRun => "55000",
+            Code::ObjectInUse => "55006",
+        }
+    }
+
+    /// The text, in which each `%` stands for the next argument of the error.
+    pub fn template(self) -> &'static str
+        ensures { result.now ≡ template_of self }
+    {
+        match self {
+            Code::CachedPlanChanged => "cached plan must not change result type",
+            Code::ArithmeticNotSupported => "arithmetic is not supported here",
+            Code::SumBigintNotSupported => "sum(bigint) is not supported",
+            Code::ColumnTypeUsedByView => "cannot alter type of a column used by a view or rule",
+            Code::OrderOrLimitInView => "ORDER BY and LIMIT are not supported in a view",
+            Code::LastColumn => "a table must keep one column",
+            Code::NotBuilt => "not built yet",
+            Code::OnlySelectBound => "only a SELECT can be bound",
+            Code::ViewOnTemporaryTable => "views on temporary tables are not supported",
+            Code::TemporaryMove => "cannot move objects into or out of temporary schemas",
+            Code::SmallintOutOfRange => "smallint out of range",
+            Code::IntegerOutOfRange => "integer out of range",
+            Code::BigintOutOfRange => "bigint out of range",
+            Code::ValueOutOfRange => "value \"%\" is out of range for type %",
+            Code::DivisionByZero => "division by zero",
+            Code::InvalidSettingValue => "invalid value for parameter \"%\": \"%\"",
+            Code::NegativeLimit => "LIMIT must not be negative",
+            Code::NegativeOffset => "OFFSET must not be negative",
+            Code::InvalidTextForType => "invalid input syntax for type %: \"%\"",
+            Code::NullInColumn =>
+                "null value in column \"%\" of relation \"%\" violates not-null constraint",
+            Code::NullsStored => "column \"%\" of relation \"%\" contains null values",
+            Code::DuplicateKey => "duplicate key value violates unique constraint \"%\"",
+            Code::UniqueIndexRefused => "could not create unique index \"%\"",
+            Code::NotUpdatableScan => "cursor \"%\" is not a simply updatable scan of table \"%\"",
+            Code::HeldCursor => "cursor \"%\" is held from a previous transaction",
+            Code::NotPositioned => "cursor \"%\" is not positioned on a row",
+            Code::AlreadyInTransaction => "there is already a transaction in progress",
+            Code::OnlyInBlock => "% can only be used in transaction blocks",
+            Code::NoTransaction => "there is no transaction in progress",
+            Code::FailedBlock =>
+                "current transaction is aborted, commands ignored until end of transaction block",
+            Code::UnknownStatement => "prepared statement \"%\" does not exist",
+            Code::ObjectHasDependents => "cannot drop % % because other objects depend on it",
+            Code::ColumnHasDependents =>
+                "cannot drop column % of table % because other objects depend on it",
+            Code::IndexOfConstraint => "cannot drop index % because a constraint requires it",
+            Code::UnknownCursor => "cursor \"%\" does not exist",
+            Code::UnknownPortal => "portal \"%\" does not exist",
+            Code::UnknownSavepoint => "savepoint \"%\" does not exist",
+            Code::UnknownSchema => "schema \"%\" does not exist",
+            Code::NoSchemaSelected => "no schema has been selected to create in",
+            Code::SyntaxError => "syntax error",
+            Code::WrongParameterCount => "wrong number of parameters for prepared statement \"%\"",
+            Code::IdentifierTooLong => "identifier \"%\" is too long",
+            Code::ColumnSpecifiedTwice => "column \"%\" specified more than once",
+            Code::ColumnExists => "column \"%\" of relation \"%\" already exists",
+            Code::AmbiguousColumn => "column reference \"%\" is ambiguous",
+            Code::UnknownColumn => "column \"%\" does not exist",
+            Code::UnknownItemColumn => "column %.% does not exist",
+            Code::UnknownRelationColumn => "column \"%\" of relation \"%\" does not exist",
+            Code::UnknownIndex => "index \"%\" does not exist",
+            Code::UnknownType => "type \"%\" does not exist",
+            Code::UnknownSetting => "unrecognized configuration parameter \"%\"",
+            Code::ItemNamedTwice => "table name \"%\" specified more than once",
+            Code::AmbiguousOperator => "operator is not unique: % % %",
+            Code::AmbiguousMinus => "operator is not unique: - %",
+            Code::UngroupedColumn =>
+                "column \"%.%\" must appear in the GROUP BY clause or be used in an aggregate function",
+            Code::AggregateNotAllowed => "aggregate functions are not allowed here",
+            Code::ArgumentNotBoolean => "argument of % must be type boolean, not type %",
+            Code::ColumnTypeMismatch => "column \"%\" is of type % but expression is of type %",
+            Code::ParameterTypeMismatch =>
+                "parameter $% of type % cannot be coerced to the expected type %",
+            Code::NotATable => "\"%\" is not a table",
+            Code::NotAView => "\"%\" is not a view",
+            Code::NotAnIndex => "\"%\" is not an index",
+            Code::UnknownOperator => "operator does not exist: % % %",
+            Code::UnknownMinus => "operator does not exist: - %",
+            Code::UnknownFunction => "function %(%) does not exist",
+            Code::UnacceptableSchemaName => "unacceptable schema name \"%\"",
+            Code::UnknownRelation => "relation \"%\" does not exist",
+            Code::MissingFromEntry => "missing FROM-clause entry for table \"%\"",
+            Code::UnknownParameter => "there is no parameter $%",
+            Code::DuplicateCursor => "cursor \"%\" already exists",
+            Code::DuplicatePortal => "portal \"%\" already exists",
+            Code::DuplicateStatement => "prepared statement \"%\" already exists",
+            Code::DuplicateSchema => "schema \"%\" already exists",
+            Code::DuplicateRelation => "relation \"%\" already exists",
+            Code::OrderPositionMissing => "ORDER BY position % is not in select list",
+            Code::DistinctOrderNotListed =>
+                "for SELECT DISTINCT, ORDER BY expressions must appear in select list",
+            Code::ScrollConflict => "cannot specify both SCROLL and NO SCROLL",
+            Code::SensitivityConflict => "cannot specify both INSENSITIVE and ASENSITIVE",
+            Code::TwoPrimaryKeys => "multiple primary keys for table \"%\" are not allowed",
+            Code::ColumnInPrimaryKey => "column \"%\" is in a primary key",
+            Code::ViewColumnsChanged => "cannot change columns of view \"%\"",
+            Code::TemporaryInNamedSchema =>
+                "cannot create temporary relation in non-temporary schema",
+            Code::RelationInTemporarySchema => "cannot create relation in the temporary schema",
+            Code::RecursiveView => "infinite recursion detected in rules for relation \"%\"",
+            Code::UntypedParameter => "could not determine data type of parameter $%",
+            Code::LimitExceeded => "program limit exceeded",
+            Code::StackDepthExceeded => "stack depth limit exceeded",
+            Code::ForwardOnly => "cursor can only scan forward",
+            Code::PortalCannotRun => "portal \"%\" cannot be run",
+            Code::ObjectInUse =>
+                "cannot % \"%\" because it is being used by active queries in this session",
+        }
+    }
+}

@@ -1,0 +1,36 @@
+ghost use Rattle.std.specs.Prelude.{◌≡◌, length, IsTrue};
+ghost use Rattle.std.specs.Option.{option_copied};
+ghost use Rattle.q_base.specs.Tables.{ascends, value_of};
+
+use std::cmp::Ordering;
+
+/// A constant table of `N` rows whose keys ascend strictly, so that a key has one row at most.
+#[derive(Drop)]
+pub struct Table<'a, K: Ord, V, const N: usize> {
+    rows: &'a [(K, V)],
+    ghost ascending: { IsTrue (ascends K.cmp rows.now) },
+    ghost whole: { length rows.now ≡ N },
+}
+
+impl<'a, K: Ord, V, const N: usize> Table<'a, K, V, N> {
+    pub fn new(rows: &'a [(K, V)]) -> Table<'a, K, V, N>
+        requires ascending { IsTrue (ascends K.cmp rows.now) }
+        requires whole { length rows.now ≡ N }
+        ensures { result.rows.now ≡ rows.now }
+    {
+        Table { rows }
+    }
+
+    /// The value of the only row of `key`; `None` exactly where no row has it.
+    pub fn find(&self, key: &K) -> Option<&'a V>
+        ensures { option_copied result ≡ value_of K.cmp key.now self.now.rows.now }
+    {
+        let rows = self.rows;
+        for row in rows {
+            if row.0.cmp(key) == Ordering::Equal {
+                return Some(&row.1);
+            }
+        }
+        None
+    }
+}
