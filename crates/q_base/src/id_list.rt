@@ -1,7 +1,7 @@
-ghost use Rattle.std.specs.Prelude.{◌≡◌, []};
-ghost use Rattle.q_base.specs.IdLists.{IsAscending};
+ghost use Rattle.std.specs.Prelude.{◌≡◌, [], OnOk, OnErr};
+ghost use Rattle.q_base.specs.IdLists.{IsAscending, with_id};
 
-use crate::ObjId;
+use crate::{NoMemory, ObjId};
 use std::alloc::Global;
 use std::marker::Model;
 
@@ -38,5 +38,17 @@ impl IdList {
         ensures ascending { IsAscending self.now }
     {
         self.ids.as_slice()
+    }
+
+    /// Puts `id` at its place, or leaves the list as it was where `id` is there already or where
+    /// memory is refused.
+    pub fn push(&mut self, id: ObjId) -> Result<(), NoMemory>
+        ensures ok { OnOk result (self.new ≡ with_id id self.old) }
+        ensures err { OnErr result (self.new ≡ self.old) }
+    {
+        if let Err(place) = self.ids.binary_search(&id) {
+            self.ids.insert(place, id)?;
+        }
+        Ok(())
     }
 }

@@ -1,8 +1,6 @@
-ghost use Rattle.std.specs.Prelude.{◌≡◌, length, IsTrue};
+ghost use Rattle.std.specs.Prelude.{◌≡◌, [], ◌∷◌, length, IsTrue, MatchOption};
 ghost use Rattle.std.specs.Option.{option_copied};
-ghost use Rattle.q_base.specs.Tables.{ascends, value_of};
-
-use std::cmp::Ordering;
+ghost use Rattle.q_base.specs.Tables.{ascends, rows_of, value_of};
 
 /// A constant table of `N` rows whose keys ascend strictly, so that a key has one row at most.
 #[derive(Drop)]
@@ -23,14 +21,13 @@ impl<'a, K: Ord, V, const N: usize> Table<'a, K, V, N> {
 
     /// The value of the only row of `key`; `None` exactly where no row has it.
     pub fn find(&self, key: &K) -> Option<&'a V>
-        ensures { option_copied result ≡ value_of K.cmp key.now self.now.rows.now }
+        ensures value { option_copied result ≡ value_of K.cmp key.now self.now.rows.now }
+        ensures only { MatchOption (option_copied result) (rows_of K.cmp key.now self.now.rows.now ≡ []) (λ value. (same : K) × (rows_of K.cmp key.now self.now.rows.now ≡ (same, value) ∷ [])) }
     {
         let rows = self.rows;
-        for row in rows {
-            if row.0.cmp(key) == Ordering::Equal {
-                return Some(&row.1);
-            }
+        match rows.binary_search_by(|row| row.0.cmp(key)) {
+            Ok(at) => Some(&rows[at].1),
+            Err(_) => None,
         }
-        None
     }
 }

@@ -1,0 +1,57 @@
+-- How an id comes to its place in an ascending list.
+use Rattle.std.proofs.Common.{◌≡◌, ℕ, zero, suc, ◌+◌, ◌<◌, ◌≤◌, ◌==◌, Bool, true, false, nat_lt, List, [], ◌∷◌, length, get_or, if◌then◌else◌, Ordering, Less, Equal, Greater, Result, Ok, Err, MatchResult, HoldsAt, insert, nat_cmp, sym, ap, refl, ◌∙◌, arith}
+use Rattle.std.specs.List.{AllWithin, AllAdjacentBelow}
+use Rattle.std.specs.List.Sorted.{IsSearchInRange, IsBinarySearchResult, IsPartitionPoint}
+use Rattle.std.proofs.lemmas.Cmp.{ranked, nat_cmp_total}
+use Rattle.std.proofs.lemmas.Bool.Decides.{nat_tests}
+use Rattle.std.specs.Cmp.{nat_cmp_is}
+use Rattle.q_base.specs.declared.ids.ObjId.{ObjId}
+use Rattle.q_base.specs.IdLists.{IsAscending, with_id}
+use Rattle.q_base.proofs.Searches.{ends_at}
+
+next_below : (ids : List ObjId) → IsAscending ids → (k : ℕ) (d : ObjId) → k + 1 < length ids → (get_or ids k d).0 < (get_or ids (k + 1) d).0
+next_below [] up k d lt = absurd (omega arith)
+next_below (id ∷ []) up k d lt = absurd (omega arith)
+next_below (id ∷ next ∷ ids) up zero d lt = up.0
+next_below (id ∷ next ∷ ids) up (suc k) d lt = let same : suc (k + 1) ≡ suc k + 1 = omega arith in rw (← same) (next_below (next ∷ ids) up.1 k d (omega arith))
+
+-- an id that stands after lesser ones is there already
+with_id_there : (id : ObjId) (ids : List ObjId) (i : ℕ) → i < length ids → ((d : ObjId) → (get_or ids i d).0 ≡ id.0) → ((k : ℕ) (d : ObjId) → k < i → (get_or ids k d).0 < id.0) → with_id id ids ≡ ids
+with_id_there id [] i within same less = absurd (omega arith)
+with_id_there id (first ∷ ids) zero within same less = grind (arith, nat_tests, same first)
+with_id_there id (first ∷ ids) (suc i) within same less = grind (arith, nat_tests, less 0 first (omega arith), with_id_there id ids i (omega arith) same (λ k d lt. less (suc k) d (omega arith)))
+
+-- between the lesser and the greater ones it is inserted
+with_id_inserted : (id : ObjId) (ids : List ObjId) (i : ℕ) → i ≤ length ids → ((k : ℕ) (d : ObjId) → k < i → (get_or ids k d).0 < id.0) → ((k : ℕ) (d : ObjId) → i ≤ k → k < length ids → id.0 < (get_or ids k d).0) → with_id id ids ≡ insert ids i id
+with_id_inserted id [] zero within less greater = refl
+with_id_inserted id [] (suc i) within less greater = refl
+with_id_inserted id (first ∷ ids) zero within less greater = grind (arith, nat_tests, greater 0 first (omega arith) (omega arith))
+with_id_inserted id (first ∷ ids) (suc i) within less greater = grind (arith, nat_tests, less 0 first (omega arith), with_id_inserted id ids i (omega arith) (λ k d lt. less (suc k) d (omega arith)) (λ k d from lt. greater (suc k) d (omega arith) (omega arith)))
+
+-- what a binary search answers is the place at which the id belongs
+pub with_id_searched : (id : ObjId) (ids : List ObjId) (r : Result ℕ ℕ) → IsAscending ids → IsSearchInRange r (length ids) → IsBinarySearchResult (λ other. nat_cmp other.0 id.0) ids r → MatchResult r (λ i. with_id id ids ≡ ids) (λ i. with_id id ids ≡ insert ids i id)
+with_id_searched id ids (Ok i) up within found =
+    let ends = ends_at nat_cmp_total (λ (x : ObjId). x.0) ids id.0 (Ok i) (λ k d lt. sym (nat_cmp_is _ _ Less (next_below ids up k d lt))) within found in
+    with_id_there id ids i within (λ d. ranked _ id.0 _ (sym (ends.1 d))) (λ k d lt. ranked _ id.0 _ (sym (ends.2.less k d lt)))
+with_id_searched id ids (Err i) up within found =
+    let ends = ends_at nat_cmp_total (λ (x : ObjId). x.0) ids id.0 (Err i) (λ k d lt. sym (nat_cmp_is _ _ Less (next_below ids up k d lt))) within found in
+    with_id_inserted id ids i within (λ k d lt. ranked _ id.0 _ (sym (ends.1.less k d lt))) (λ k d from lt. ranked _ id.0 _ (sym (ends.1.greater k d from lt)))
+
+-- the list stays in order
+ascending_after : (before id : ObjId) (ids : List ObjId) → before.0 < id.0 → IsAscending (before ∷ ids) → IsAscending (before ∷ with_id id ids)
+ascending_after before id [] lt up = (lt, tt)
+ascending_after before id (first ∷ ids) lt up = placed (λ below. ascending_after first id ids below up.1) (nat_lt first.0 id.0) (first.0 == id.0) refl refl
+  where
+    placed : (first.0 < id.0 → IsAscending (first ∷ with_id id ids)) → (a b : Bool) → nat_lt first.0 id.0 ≡ a → (first.0 == id.0) ≡ b → IsAscending (before ∷ (if a then first ∷ with_id id ids else (if b then first ∷ ids else id ∷ first ∷ ids)))
+    placed later true b e f = (up.0, later (grind (arith, nat_tests)))
+    placed later false true e f = up
+    placed later false false e f = (lt, (grind (arith, nat_tests), up.1))
+
+pub ascending_with_id : (id : ObjId) (ids : List ObjId) → IsAscending ids → IsAscending (with_id id ids)
+ascending_with_id id [] up = tt
+ascending_with_id id (first ∷ ids) up = placed (nat_lt first.0 id.0) (first.0 == id.0) refl refl
+  where
+    placed : (a b : Bool) → nat_lt first.0 id.0 ≡ a → (first.0 == id.0) ≡ b → IsAscending (if a then first ∷ with_id id ids else (if b then first ∷ ids else id ∷ first ∷ ids))
+    placed true b e f = ascending_after first id ids (grind (arith, nat_tests)) up
+    placed false true e f = up
+    placed false false e f = (grind (arith, nat_tests), up)

@@ -1,0 +1,3 @@
+mod IdLists
+mod Searches
+mod Tables
