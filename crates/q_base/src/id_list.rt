@@ -33,6 +33,7 @@ impl IdList {
         }
     }
 
+    /// The ids, in ascending order.
     pub fn as_slice(&self) -> &[ObjId]
         ensures ids { result.now ≡ self.now }
         ensures ascending { IsAscending self.now }
