@@ -1,12 +1,11 @@
 -- How an id comes to its place in an ascending list.
-use Rattle.std.proofs.Common.{◌≡◌, ℕ, zero, suc, ◌+◌, ◌<◌, ◌≤◌, ◌==◌, Bool, true, false, nat_lt, List, [], ◌∷◌, length, get_or, if◌then◌else◌, Ordering, Less, Equal, Greater, Result, Ok, Err, MatchResult, HoldsAt, insert, nat_cmp, sym, ap, refl, ◌∙◌, arith}
-use Rattle.std.specs.List.{AllWithin, AllAdjacentBelow}
-use Rattle.std.specs.List.Sorted.{IsSearchInRange, IsBinarySearchResult, IsPartitionPoint}
+use Rattle.std.proofs.Common.{◌≡◌, ℕ, zero, suc, ◌+◌, ◌<◌, ◌≤◌, ◌==◌, Bool, true, false, nat_lt, List, [], ◌∷◌, length, get_or, if◌then◌else◌, Less, Result, Ok, Err, MatchResult, insert, nat_cmp, sym, ap, refl, inl, inr, ⊎_elim, ◌∙◌, Contains, ◌⊎◌, arith}
+use Rattle.std.specs.List.Sorted.{IsSearchInRange, IsBinarySearchResult}
 use Rattle.std.proofs.lemmas.Cmp.{ranked, nat_cmp_total}
 use Rattle.std.proofs.lemmas.Bool.Decides.{nat_tests}
 use Rattle.std.specs.Cmp.{nat_cmp_is}
 use Rattle.q_base.specs.declared.ids.ObjId.{ObjId}
-use Rattle.q_base.specs.IdLists.{IsAscending, with_id}
+use Rattle.q_base.specs.IdLists.{HasOneMore, IsAscending, with_id}
 use Rattle.q_base.proofs.Searches.{ends_at}
 
 next_below : (ids : List ObjId) → IsAscending ids → (k : ℕ) (d : ObjId) → k + 1 < length ids → (get_or ids k d).0 < (get_or ids (k + 1) d).0
@@ -55,3 +54,33 @@ ascending_with_id id (first ∷ ids) up = placed (nat_lt first.0 id.0) (first.0 
     placed true b e f = ascending_after first id ids (grind (arith, nat_tests)) up
     placed false true e f = up
     placed false false e f = (grind (arith, nat_tests), up)
+
+-- what the list has after it
+abbrev id_of : ℕ → ObjId
+id_of n = record { 0 = n }
+
+cases_cons : (first : ObjId) (ids : List ObjId) (other : ObjId) → Contains (first ∷ ids) other → (other ≡ first) ⊎ Contains ids other
+cases_cons first ids other (zero, within, same) = inl (sym same)
+cases_cons first ids other (suc k, within, same) = inr (k, omega arith, same)
+
+here : (first : ObjId) (ids : List ObjId) (other : ObjId) → other ≡ first → Contains (first ∷ ids) other
+here first ids other same = (0, omega arith, sym same)
+
+later : (first : ObjId) (ids : List ObjId) (other : ObjId) → Contains ids other → Contains (first ∷ ids) other
+later first ids other (k, within, same) = (suc k, omega arith, same)
+
+-- at an id that goes further back
+more_later : (id first : ObjId) (ids new : List ObjId) → HasOneMore id ids new → HasOneMore id (first ∷ ids) (first ∷ new)
+more_later id first ids new more other = (
+  λ has. ⊎_elim (λ same. inr (here first ids other same)) (λ back. ⊎_elim inl (λ old. inr (later first ids other old)) ((more other).0 back)) (cases_cons first new other has),
+  ⊎_elim (λ same. later first new other ((more other).1 (inl same))) (λ old. ⊎_elim (here first new other) (λ back. later first new other ((more other).1 (inr back))) (cases_cons first ids other old)),
+)
+
+pub members_with_id : (id : ObjId) (ids : List ObjId) → HasOneMore id ids (with_id id ids)
+members_with_id id [] = λ other. (cases_cons id [] other, ⊎_elim (here id [] other) (later id [] other))
+members_with_id id (first ∷ ids) = placed (more_later id first ids _ (members_with_id id ids)) (nat_lt first.0 id.0) (first.0 == id.0) refl
+  where
+    placed : HasOneMore id (first ∷ ids) (first ∷ with_id id ids) → (a b : Bool) → (first.0 == id.0) ≡ b → HasOneMore id (first ∷ ids) (if a then first ∷ with_id id ids else (if b then first ∷ ids else id ∷ first ∷ ids))
+    placed more true b e = more
+    placed more false true e = λ other. let is : first ≡ id = ap id_of (grind (arith, nat_tests)) in (inr, ⊎_elim (λ same. here first ids other (same ∙ sym is)) (λ old. old))
+    placed more false false e = λ other. (cases_cons id (first ∷ ids) other, ⊎_elim (here id (first ∷ ids) other) (later id (first ∷ ids) other))

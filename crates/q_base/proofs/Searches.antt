@@ -1,5 +1,5 @@
 -- What a binary search finds in a list whose keys ascend strictly.
-use Rattle.std.proofs.Common.{◌≡◌, ℕ, zero, suc, ◌+◌, ◌-◌, ◌<◌, ◌≤◌, List, [], ◌∷◌, length, get_or, Ordering, Less, Equal, Greater, Result, Ok, Err, MatchResult, HoldsAt, sym, ap, refl, ◌∙◌, arith}
+use Rattle.std.proofs.Common.{◌≡◌, ℕ, zero, suc, ◌+◌, ◌-◌, ◌<◌, ◌≤◌, List, length, get_or, Ordering, Less, Equal, Greater, Result, Ok, Err, MatchResult, HoldsAt, sym, ap, refl, ◌∙◌, arith}
 use Rattle.std.specs.List.{AllAdjacentBelow}
 use Rattle.std.specs.List.Sorted.{IsSearchInRange, IsBinarySearchResult, IsNonDecreasingBy}
 use Rattle.std.specs.Cmp.{IsTotalOrder}
@@ -47,10 +47,14 @@ module _ {X K : Type 0} {R : K → K → Ordering} (o : IsTotalOrder R) (key : X
       rw (← there) (far_below xs up i (j - i - 1) d (omega arith))
 
   pub ends_at : (xs : List X) (k : K) (r : Result ℕ ℕ) → AreAscending xs → IsSearchInRange r (length xs) → IsBinarySearchResult (λ x. R (key x) k) xs r → EndsAt k xs r
-  ends_at xs k (Ok i) up within equal = (within, equal, record {
-    less = λ n d lt. sym (alike_right o _ _ _ (equal d)) ∙ below xs up n i d lt within;
-    greater = λ n d from lt. o.antisymm _ _ ∙ ap ordering_reverse (sym (o.congr _ _ _ (equal d)) ∙ below xs up i n d (omega arith) lt);
-  })
+  ends_at xs k (Ok i) up within equal = (
+    within,
+    equal,
+    record {
+      less = λ n d lt. sym (alike_right o _ _ _ (equal d)) ∙ below xs up n i d lt within;
+      greater = λ n d from lt. o.antisymm _ _ ∙ ap ordering_reverse (sym (o.congr _ _ _ (equal d)) ∙ below xs up i n d (omega arith) lt);
+    },
+  )
   ends_at xs k (Err i) up within parted =
       let parts = parted (rising xs k up) in
       (within, record { less = λ n d lt. parts.0 n d (omega arith) lt; greater = parts.1 })

@@ -1,6 +1,5 @@
 -- What a search by the key finds among the rows of a table.
-use Rattle.std.proofs.Common.{◌≡◌, ℕ, zero, suc, ◌+◌, ◌<◌, ◌≤◌, Bool, true, false, true≢false, ◌&&◌, List, [], ◌∷◌, length, get_or, if◌then◌else◌, Ordering, Less, Equal, Greater, Option, Some, None, Result, Ok, Err, MatchResult, is_eq, is_lt, sym, ap, refl, subst, ⊎_elim, ◌∙◌, arith}
-use Rattle.std.specs.List.{AllAdjacentBelow}
+use Rattle.std.proofs.Common.{◌≡◌, ℕ, zero, suc, ◌+◌, ◌<◌, Bool, true, false, true≢false, ◌&&◌, List, [], ◌∷◌, length, get_or, Ordering, Less, Equal, Greater, Some, None, Result, Ok, Err, MatchResult, is_eq, is_lt, sym, ap, refl, ⊎_elim, arith}
 use Rattle.std.specs.List.Sorted.{IsSearchInRange, IsBinarySearchResult}
 use Rattle.std.specs.Cmp.{IsTotalOrder}
 use Rattle.std.proofs.lemmas.Bool.{cases_lt}

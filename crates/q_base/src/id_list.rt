@@ -1,5 +1,5 @@
 ghost use Rattle.std.specs.Prelude.{◌≡◌, [], OnOk, OnErr};
-ghost use Rattle.q_base.specs.IdLists.{IsAscending, with_id};
+ghost use Rattle.q_base.specs.IdLists.{HasOneMore, IsAscending, with_id};
 
 use crate::{NoMemory, ObjId};
 use std::alloc::Global;
@@ -33,6 +33,7 @@ impl IdList {
         }
     }
 
+    /// The ids, in ascending order.
     pub fn as_slice(&self) -> &[ObjId]
         ensures ids { result.now ≡ self.now }
         ensures ascending { IsAscending self.now }
@@ -44,6 +45,7 @@ impl IdList {
     /// memory is refused.
     pub fn push(&mut self, id: ObjId) -> Result<(), NoMemory>
         ensures ok { OnOk result (self.new ≡ with_id id self.old) }
+        ensures members { OnOk result (HasOneMore id self.old self.new) }
         ensures err { OnErr result (self.new ≡ self.old) }
     {
         if let Err(place) = self.ids.binary_search(&id) {

@@ -22,3 +22,6 @@ pub use table::Table;
 pub use text::Str;
 pub use touched::Touched;
 pub use work::Work;
+
+#[cfg(test)]
+mod tests;

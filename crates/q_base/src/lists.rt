@@ -39,6 +39,7 @@ impl<T> ListOf<T> {
         ListOf { items }
     }
 
+    /// The elements, in order.
     pub fn as_slice(&self) -> &[T]
         ensures { result.now ≡ self.now }
     {

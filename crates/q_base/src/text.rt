@@ -35,12 +35,14 @@ impl Str {
         Ok(Str::new(String::from_str(alloc, text)?))
     }
 
+    /// The characters, lent.
     pub fn as_str(&self) -> &str
         ensures { result.now ≡ self.now }
     {
         self.text.as_str()
     }
 
+    /// The characters as a `String`, without a copy.
     pub fn into_string(self) -> String
         ensures { string_bytes result ≡ self }
     {

@@ -1,4 +1,4 @@
-use Rattle.std.proofs.Common.{◌≡◌, Ok, Err, get_or, sym, rules}
+use Rattle.std.proofs.Common.{Ok, Err, get_or, sym, rules}
 use Rattle.std.proofs.lemmas.Fn.{always_returns_same}
 use Rattle.q_base.proofs.Tables.{found_by}
 use Rattle.q_base.proofs.table.Table.find.Goals as goal
