@@ -1,6 +1,7 @@
 ghost use Rattle.std.specs.Prelude.{◌≡◌, IfOk};
 ghost use Rattle.std.specs.Fmt.{signed_decimal};
 ghost use Rattle.q_value.specs.Answers.{Answers};
+ghost use Rattle.q_value.specs.Values.{IsOf};
 ghost use Rattle.q_value.specs.Conversions.{converted, integer_converted, truth_text};
 
 use crate::{SqlType, Value};
@@ -14,7 +15,8 @@ use std::alloc::Global;
 /// Refused as 42804, without arguments, where there is no conversion: the caller knows both types and
 /// the column. Refused as 22003 where a number is out of the range of `to`.
 pub fn convert(alloc: Global, value: Value, to: SqlType) -> Result<Value, Stop>
-    ensures { Answers (converted to value) result }
+    ensures converted { Answers (converted to value) result }
+    ensures typed { IfOk result (IsOf to) }
 {
     match (value, to) {
         (Value::Null, _) => Ok(Value::Null),

@@ -3,6 +3,7 @@
 
 mod conversions;
 mod feed;
+pub mod laws;
 mod order;
 mod print;
 mod statistics;

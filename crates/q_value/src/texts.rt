@@ -1,6 +1,6 @@
-ghost use Rattle.std.specs.Prelude.{◌≡◌, IsTrue};
+ghost use Rattle.std.specs.Prelude.{◌≡◌, IsTrue, IfOk, IfSome};
 ghost use Rattle.q_value.specs.Answers.{Answers};
-ghost use Rattle.q_value.specs.Values.{integer_in};
+ghost use Rattle.q_value.specs.Values.{IsOf, integer_in};
 ghost use Rattle.q_value.specs.Parse.{bare_text, is_integer, is_front_of, is_true, is_false, truth_of, integer_parsed, integer_of, parsed};
 ghost use Rattle.std.specs.Char.{is_ascii_digit};
 ghost use Rattle.std.specs.List.{list_all};
@@ -16,7 +16,8 @@ use std::alloc::Global;
 ///
 /// Refused as 22P02 where it writes none, and as 22003 where its number is out of the type's range.
 pub fn parse_value(alloc: Global, text: &str, to: SqlType) -> Result<Value, Stop>
-    ensures { Answers (parsed to text.now) result }
+    ensures parsed { Answers (parsed to text.now) result }
+    ensures typed { IfOk result (IsOf to) }
 {
     match to {
         SqlType::Int2 | SqlType::Int4 | SqlType::Int8 => parse_integer(alloc, text, to),
@@ -29,7 +30,8 @@ pub fn parse_value(alloc: Global, text: &str, to: SqlType) -> Result<Value, Stop
 }
 
 fn parse_integer(alloc: Global, text: &str, to: SqlType) -> Result<Value, Stop>
-    ensures { Answers (integer_parsed to text.now (integer_of (bare_text text.now))) result }
+    ensures parsed { Answers (integer_parsed to text.now (integer_of (bare_text text.now))) result }
+    ensures typed { IfOk result (IsOf to) }
 {
     let bare = bare(text);
     if !is_number(bare.as_bytes()) {
@@ -114,7 +116,8 @@ fn begins(word: &str, bare: &str) -> bool
 /// The number that `bare` writes, which is a sign or none and digits, as a value of type `to`.
 fn narrowed(bare: &str, to: SqlType) -> Option<Value>
     requires { IsTrue (is_integer bare.now) }
-    ensures { result ≡ integer_in to (signed_digits_value 10 bare.now) }
+    ensures value { result ≡ integer_in to (signed_digits_value 10 bare.now) }
+    ensures typed { IfSome result (IsOf to) }
 {
     match bare.parse::<i64>() {
         Ok(number) => Value::integer(number, to),

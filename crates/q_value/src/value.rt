@@ -1,5 +1,5 @@
-ghost use Rattle.std.specs.Prelude.{◌≡◌, IfOk};
-ghost use Rattle.q_value.specs.Values.{type_name, kind_of, number_of, integer_in};
+ghost use Rattle.std.specs.Prelude.{◌≡◌, IfOk, IfSome};
+ghost use Rattle.q_value.specs.Values.{type_name, kind_of, IsOf, number_of, integer_in};
 
 use q_base::{Code, ListOf, NoMemory, Str};
 use std::alloc::Global;
@@ -87,7 +87,8 @@ impl Value {
     /// `number` as a value of an integer type, or `None` where it is out of the type's range or the
     /// type is none of integers.
     pub fn integer(number: i64, to: SqlType) -> Option<Value>
-        ensures { result ≡ integer_in to number }
+        ensures value { result ≡ integer_in to number }
+        ensures typed { IfSome result (IsOf to) }
     {
         match to {
             SqlType::Int2 if -32_768 <= number && number <= 32_767 => {
