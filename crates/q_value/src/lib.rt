@@ -7,6 +7,8 @@ pub mod laws;
 mod order;
 mod print;
 mod statistics;
+#[cfg(test)]
+mod tests;
 mod texts;
 mod value;
 
