@@ -1,4 +1,4 @@
-use Rattle.std.proofs.Common.{◌≡◌, ℕ, ◌^◌, ◌<◌, ◌≤◌, length, Bool, true, false, nat_lt, ◌&&◌, List, [], ◌∷◌, ℤ, pos, negsuc, refl, FitsSigned, w64, IsTrue, arith, None}
+use Rattle.std.proofs.Common.{◌≡◌, ℕ, ◌^◌, ◌<◌, ◌≤◌, List, [], ◌∷◌, ℤ, pos, negsuc, refl, FitsSigned, w64, IsTrue, arith, None}
 use Rattle.std.proofs.lemmas.Bool.Decides.{nat_tests}
 use Rattle.std.proofs.lemmas.Bool.{and_parts, lt-leb, ltb-true}
 use Rattle.std.specs.Char.{is_ascii_digit, digit_value}

@@ -1,5 +1,4 @@
 use Rattle.std.specs.Prelude.{◌≡◌, Option, None, Some, List, [], ◌∷◌}
-use Rattle.q_base.specs.declared.code.Code.{Code}
 use Rattle.q_value.specs.declared.value.Outcome.{Outcome}
 use Rattle.q_value.specs.declared.value.Outcome.TheVariants.{Row, Fault}
 
