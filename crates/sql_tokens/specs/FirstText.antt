@@ -15,6 +15,12 @@ pub record IsScanned (fed : List ℕ) (scanned : ℕ) (place : Place) : Type 0 w
   pub leads : place_after (Between true) (take scanned fed) ≡ Some place
   pub depth : depth_of place ≤ scanned
 
+-- what a splitter keeps: the bytes from `begin` on weren't passed
+pub record IsStanding (taken : ℕ) (buffer : List ℕ) (begin scanned : ℕ) (place : Place) : Type 0 where
+  pub limit : taken ≤ 2 ^ 30
+  pub begins : begin ≤ length buffer
+  pub fed : IsScanned (drop begin buffer) scanned place
+
 -- the first text has a first text's bytes and more, in whatever comes
 pub record IsLonger (fed more : List ℕ) : Type 0 where
   pub text : Text

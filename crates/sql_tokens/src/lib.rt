@@ -4,5 +4,5 @@
 mod splitter;
 mod token;
 
-pub use splitter::{Place, Took};
+pub use splitter::{Splitter, Took};
 pub use token::{Sign, Token, TokenList};

@@ -25,6 +25,9 @@ pub enum Place {
 }
 
 impl Place {
+    /// Before a text.
+    pub const START: Place = Place::Between { blank: true };
+
     /// The place after `byte`, or `None` where the byte is a cut.
     pub fn after(self, byte: u8) -> Option<Place>
         requires { depth_of self < 2 ^ 64 - 1 }

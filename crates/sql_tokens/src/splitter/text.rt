@@ -1,4 +1,4 @@
-ghost use Rattle.std.specs.Prelude.{◌≡◌, ◌+◌, ◌^◌, ◌<◌, ◌≤◌, Some, None, length, take, slice_index, IfOk};
+ghost use Rattle.std.specs.Prelude.{◌≡◌, ◌+◌, ◌-◌, ◌^◌, ◌<◌, ◌≤◌, Some, None, length, take, slice_index, IfOk, ◌||◌, if◌then◌else◌};
 ghost use Rattle.sql_tokens.specs.Places.{after, depth_of, held, place_after};
 ghost use Rattle.sql_tokens.specs.FirstText.{IsScanned, IsFirst, exceeds, reading_of};
 
@@ -15,6 +15,23 @@ pub struct Found {
     pub place: Place,
     /// Whether a cut stands after it.
     pub cut: bool,
+}
+
+impl Found {
+    /// How many bytes it has with its cut.
+    pub fn size(&self) -> usize
+        requires { self.now.length < 2 ^ 64 - 1 }
+        ensures { result ≡ self.now.length + (if self.now.cut then 1 else 0) }
+    {
+        self.length + usize::from(self.cut)
+    }
+
+    /// Whether no more bytes can come to it.
+    pub fn is_whole(&self, over: bool) -> bool
+        ensures { result ≡ (self.now.cut || over) }
+    {
+        self.cut || over
+    }
 }
 
 /// What a whole text is.
@@ -64,7 +81,7 @@ pub fn exceeds(taken: usize, found: &Found) -> bool
     requires { taken ≤ 2 ^ 30 }
     ensures { result ≡ exceeds taken found.now.length found.now.cut }
 {
-    found.length > 1 << 20 || taken + (found.length + usize::from(found.cut)) > 1 << 30
+    found.length > 1 << 20 || taken + found.size() > 1 << 30
 }
 
 /// What the whole text of these bytes is. It is copied only where it is a command.
