@@ -1,0 +1,4 @@
+pub mod FirstText
+pub mod Places
+pub mod Script
+pub mod Splitting

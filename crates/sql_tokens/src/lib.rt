@@ -1,6 +1,8 @@
 //! From the bytes of a script to its commands, and from a command's text to its tokens.
 #![tactic(auto)]
 
+mod splitter;
 mod token;
 
+pub use splitter::{Splitter, Took};
 pub use token::{Sign, Token, TokenList};
