@@ -1,3 +1,4 @@
 pub mod Agreement
 pub mod FirstText
 pub mod Taking
+pub mod TokensLemmas
