@@ -1,4 +1,4 @@
-//! Laws of this crate's definitions, which functions above cite.
+//! Laws of this crate's definitions, for the crates above.
 ghost use Rattle.std.specs.Prelude.{◌≡◌, Bool, false};
 ghost use Rattle.std.specs.Cmp.{IsTotalOrder};
 ghost use Rattle.q_value.specs.declared.value.Value.{Value};

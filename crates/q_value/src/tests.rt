@@ -123,7 +123,7 @@ fn texts_are_read_and_converted(rt: HostRuntime) -> Result<(), Fail> {
         assert_eq!(rt; found.as_slice(), row.2.as_bytes());
     }
     for row in CONVERTED.iter() {
-        let value = parse_value(rt.alloc(), row.0, row.1)?;
+        let value = parse_value(rt.alloc(), row.0, row.1)?.copy(rt.alloc())?;
         let found = shown(rt.alloc(), convert(rt.alloc(), value, row.2))?;
         assert_eq!(rt; found.as_slice(), row.3.as_bytes());
     }

@@ -103,7 +103,7 @@ fn is_false_text(bare: &str) -> bool
         || bare.eq_ignore_ascii_case("0")
 }
 
-/// Tells whether `word` begins with `bare`, in any case, which has a letter at least.
+/// Tells whether `bare` is the first letters of `word`, one at least, in any case.
 fn begins(word: &str, bare: &str) -> bool
     ensures { result ≡ is_front_of word.now bare.now }
 {

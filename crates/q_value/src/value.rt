@@ -72,7 +72,7 @@ impl Value {
         }
     }
 
-    /// The number of a value of an integer type.
+    /// The number of a value of an integer type, or `None` for another value.
     pub fn number(&self) -> Option<i64>
         ensures { result ≡ number_of self.now }
     {
