@@ -9,7 +9,8 @@ use q_base::{NoMemory, ObjId};
 use slab::Slab;
 use std::collections::BTreeSet;
 
-// Each watched object with the keys of the sources that watch it.
+// Each watched object with the keys of the sources that watch it, and no other pair: so it stays as
+// small as what is watched.
 pub(crate) type Index = BTreeSet<(ObjId, usize)>;
 
 // Lists `key` under `id` too.

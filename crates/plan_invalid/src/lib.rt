@@ -5,6 +5,8 @@ mod index;
 pub mod laws;
 mod marks;
 mod source;
+#[cfg(test)]
+mod tests;
 
 pub use marks::Marks;
 pub use source::SourceId;

@@ -11,8 +11,10 @@ use std::alloc::Global;
 use std::collections::BTreeSet;
 use std::marker::Model;
 
-/// Which cached sources are marked: those of which an object, or everything, changed since they
-/// were analysed last.
+/// Which cached sources are marked: those of which an object that they use, or everything, changed
+/// since they were analysed last. PostgreSQL marks them in PlanCacheRelCallback and ResetPlanCache
+/// (plancache.c), which walk over all saved plans; here an index leads from an object to the
+/// sources that watch it.
 #[derive(Drop)]
 pub struct Marks {
     alloc: Global,
@@ -64,7 +66,8 @@ impl Marks {
         Ok(SourceId { key, generation })
     }
 
-    /// Makes the source watch `uses` in place of what it watched, and unmarks it.
+    /// Makes the source watch `uses` in place of what it watched, and unmarks it, as after an analysis
+    /// that found these objects.
     pub fn watch(&mut self, source: SourceId, uses: &IdList) -> Result<(), NoMemory>
         requires { IsSome (source_of self.old source) }
         ensures ok { OnOk result (Changes self.old self.new source (Some (record { generation = source.generation; uses = uses.now; marked = false }))) }
@@ -81,7 +84,7 @@ impl Marks {
         Ok(())
     }
 
-    /// Marks the source.
+    /// Marks the source, as where its analysis failed. An id of a removed source changes nothing.
     pub fn mark_one(&mut self, source: SourceId)
         ensures marked { Changes self.old self.new source (option_map marked (source_of self.old source)) }
         ensures given { self.new.given ≡ self.old.given }
@@ -91,7 +94,7 @@ impl Marks {
         }
     }
 
-    /// Marks the sources that watch `id`.
+    /// Marks the sources that watch `id`, in time that goes by their number.
     pub fn hit(&mut self, id: ObjId)
         ensures all { self.new ≡ told_all self.old id }
         ensures each { (source : SourceId) → source_of self.new source ≡ option_map (told id) (source_of self.old source) }
@@ -107,7 +110,7 @@ impl Marks {
         mark_all(&mut self.sources);
     }
 
-    /// Whether the source is marked. A removed source is.
+    /// Whether the source is marked; the id of a removed source is for good.
     pub fn is_marked(&self, source: SourceId) -> bool
         ensures { result ≡ is_marked (source_of self.now source) }
     {
@@ -117,7 +120,7 @@ impl Marks {
         }
     }
 
-    /// Removes the source, whose id then answers marked for good.
+    /// Removes the source, with all that it watches. Its id names no source from then on.
     pub fn remove(&mut self, source: SourceId)
         ensures removed { Changes self.old self.new source None }
         ensures given { self.new.given ≡ self.old.given }

@@ -1,7 +1,5 @@
-use Rattle.std.proofs.Common.{◌≡◌, ℕ, ◌==◌, ◌&&◌, ◌||◌, take}
-use Rattle.q_base.specs.declared.ids.ObjId.{ObjId}
-use Rattle.plan_invalid.specs.Sources.{is_among}
-use Rattle.plan_invalid.specs.Index.{is_listed, ListsMore}
+use Rattle.std.proofs.Common.{take}
+use Rattle.plan_invalid.specs.Index.{ListsMore}
 use Rattle.plan_invalid.proofs.index.list.Given as goal
 
 -- the key is listed under the ids so far

@@ -1,4 +1,4 @@
-use Rattle.std.proofs.Common.{◌∙◌, arith}
+use Rattle.std.proofs.Common.{◌∙◌}
 use Rattle.std.proofs.lemmas.Map.Iter.{rest_all}
 use Rattle.std.specs.Map.Iter.{deref}
 use Rattle.plan_invalid.proofs.Slots.{marked_under-watchers}
