@@ -6,7 +6,7 @@ use Rattle.std.proofs.Math.Seq.{take-add, take-length}
 use Rattle.sql_tokens.specs.declared.splitter.place.Place.{Place}
 use Rattle.sql_tokens.specs.declared.splitter.place.Place.TheVariants.{Between}
 use Rattle.sql_tokens.specs.Script.{Text, texts, with_byte}
-use Rattle.sql_tokens.specs.Places.{after, depth_of, held, place_after}
+use Rattle.sql_tokens.specs.Places.{after, depth_of, content_at, place_after}
 use Rattle.sql_tokens.specs.FirstText.{IsScanned, IsLonger, IsFirst}
 use Rattle.sql_tokens.proofs.Agreement.{one_more, texts_at, texts_at_start}
 
@@ -50,14 +50,14 @@ texts_from_place : (q : Place) (xs ys : List ℕ) → place_after (Between true)
 texts_from_place q xs ys h = sym (texts_at_start (xs ++ ys)) ∙ texts_at-append (Between true) q xs ys h
 
 -- a text and its cut
-first_cut : (q : Place) (xs : List ℕ) (b : ℕ) (ys : List ℕ) → place_after (Between true) xs ≡ Some q → after q b ≡ None → texts (xs ++ (b ∷ ys)) ≡ record { bytes = xs; holds = held q; cut = true } ∷ texts ys
+first_cut : (q : Place) (xs : List ℕ) (b : ℕ) (ys : List ℕ) → place_after (Between true) xs ≡ Some q → after q b ≡ None → texts (xs ++ (b ∷ ys)) ≡ record { bytes = xs; content = content_at q; cut = true } ∷ texts ys
 first_cut q xs b ys h n =
-    let found : texts_at q (b ∷ ys) ≡ record { bytes = []; holds = held q; cut = true } ∷ texts_at (Between true) ys = rw n refl in
+    let found : texts_at q (b ∷ ys) ≡ record { bytes = []; content = content_at q; cut = true } ∷ texts_at (Between true) ys = rw n refl in
     texts_from_place q xs (b ∷ ys) h ∙ ap (with_bytes xs) found ∙ with_bytes-cons xs _ _
-    ∙ rw (append-nil xs) (ap (λ (ts : List Text). record { bytes = xs; holds = held q; cut = true } ∷ ts) (texts_at_start ys))
+    ∙ rw (append-nil xs) (ap (λ (ts : List Text). record { bytes = xs; content = content_at q; cut = true } ∷ ts) (texts_at_start ys))
 
 -- a text up to the end
-first_open : (q : Place) (xs : List ℕ) → place_after (Between true) xs ≡ Some q → texts xs ≡ record { bytes = xs; holds = held q; cut = false } ∷ []
+first_open : (q : Place) (xs : List ℕ) → place_after (Between true) xs ≡ Some q → texts xs ≡ record { bytes = xs; content = content_at q; cut = false } ∷ []
 first_open q xs h =
     ap texts (sym (append-nil xs)) ∙ texts_from_place q xs [] h ∙ with_bytes-cons xs _ _ ∙ rw (append-nil xs) refl
 
@@ -84,7 +84,7 @@ module _ (fed : List ℕ) (scanned count : ℕ) (p q : Place) (before : IsScanne
 
   pub first_here : (v : Bool) → nat_lt count (length (drop scanned fed)) ≡ v → count ≤ length (drop scanned fed)
       → (count < length (drop scanned fed) → after q (get_or (drop scanned fed) count 0) ≡ None)
-      → IsFirst fed (scanned + count) (held q) v
+      → IsFirst fed (scanned + count) (content_at q) v
   first_here true e within cut =
       let n = scanned + count in
       let w = before.within in
