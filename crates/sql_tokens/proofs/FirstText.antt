@@ -25,16 +25,16 @@ pub place_after-append : (p q : Place) (xs ys : List ℕ) → place_after p xs �
 place_after-append p q [] ys h = let e : p ≡ q = cc in ap (λ (z : Place). place_after z ys) e
 place_after-append p q (x ∷ xs) ys h =
     let along : (o : Option Place) → option_and_then (λ n. place_after n xs) o ≡ Some q → option_and_then (λ n. place_after n (xs ++ ys)) o ≡ place_after q ys
-        = λ o. elim o as (λ o. option_and_then (λ n. place_after n xs) o ≡ Some q → option_and_then (λ n. place_after n (xs ++ ys)) o ≡ place_after q ys)
-            [ None ↦ λ e. cc | Some n ↦ λ e. place_after-append n q xs ys e ] in
+    = λ o. elim o as (λ o. option_and_then (λ n. place_after n xs) o ≡ Some q → option_and_then (λ n. place_after n (xs ++ ys)) o ≡ place_after q ys)
+    [ None ↦ λ e. cc | Some n ↦ λ e. place_after-append n q xs ys e ] in
     along (after p x) h
 
 texts_at-append : (p q : Place) (xs ys : List ℕ) → place_after p xs ≡ Some q → texts_at p (xs ++ ys) ≡ with_bytes xs (texts_at q ys)
 texts_at-append p q [] ys h = let e : p ≡ q = cc in ap (λ (z : Place). texts_at z ys) e
 texts_at-append p q (x ∷ xs) ys h =
     let along : (o : Option Place) → option_and_then (λ n. place_after n xs) o ≡ Some q → one_more p x o (λ n. texts_at n (xs ++ ys)) ≡ with_byte x (with_bytes xs (texts_at q ys))
-        = λ o. elim o as (λ o. option_and_then (λ n. place_after n xs) o ≡ Some q → one_more p x o (λ n. texts_at n (xs ++ ys)) ≡ with_byte x (with_bytes xs (texts_at q ys)))
-            [ None ↦ λ e. cc | Some n ↦ λ e. ap (with_byte x) (texts_at-append n q xs ys e) ] in
+    = λ o. elim o as (λ o. option_and_then (λ n. place_after n xs) o ≡ Some q → one_more p x o (λ n. texts_at n (xs ++ ys)) ≡ with_byte x (with_bytes xs (texts_at q ys)))
+    [ None ↦ λ e. cc | Some n ↦ λ e. ap (with_byte x) (texts_at-append n q xs ys e) ] in
     along (after p x) h
 
 -- there is a text, whatever comes
@@ -42,8 +42,8 @@ texts_at_some : (p : Place) (bytes : List ℕ) → (t : Text) × (ts : List Text
 texts_at_some p [] = (_, _, refl)
 texts_at_some p (b ∷ bytes) =
     let along : (o : Option Place) → (t : Text) × (ts : List Text) × (one_more p b o (λ n. texts_at n bytes) ≡ t ∷ ts)
-        = λ o. elim o as (λ o. (t : Text) × (ts : List Text) × (one_more p b o (λ n. texts_at n bytes) ≡ t ∷ ts))
-            [ None ↦ (_, _, refl) | Some n ↦ (let w = texts_at_some n bytes in (_, _, ap (with_byte b) w.2)) ] in
+    = λ o. elim o as (λ o. (t : Text) × (ts : List Text) × (one_more p b o (λ n. texts_at n bytes) ≡ t ∷ ts))
+    [ None ↦ (_, _, refl) | Some n ↦ (let w = texts_at_some n bytes in (_, _, ap (with_byte b) w.2)) ] in
     along (after p b)
 
 texts_from_place : (q : Place) (xs ys : List ℕ) → place_after (Between true) xs ≡ Some q → texts (xs ++ ys) ≡ with_bytes xs (texts_at q ys)
@@ -90,12 +90,14 @@ module _ (fed : List ℕ) (scanned count : ℕ) (p q : Place) (before : IsScanne
       let w = before.within in
       let below : count < length (drop scanned fed) = ltb-true count (length (drop scanned fed)) e in
       let inside : n < length fed = omega (arith, length-drop scanned fed) in
-      let none : after q (get_or fed n 0) ≡ None = rw (get_or-drop scanned fed count 0) at (cut below) in
-      (omega arith, λ more.
-      let parts : fed ++ more ≡ take n fed ++ (get_or fed n 0 ∷ (drop (n + 1) fed ++ more))
-          = ap (λ (xs : List ℕ). xs ++ more) (sym (take-append-drop n fed)) ∙ append_assoc (take n fed) (drop n fed) more
-              ∙ ap (λ (xs : List ℕ). take n fed ++ (xs ++ more)) (drop_more fed n 0 inside) in
-      ap texts parts ∙ first_cut q (take n fed) (get_or fed n 0) (drop (n + 1) fed ++ more) whole_place none)
+      let none : after q (get_or fed n 0) ≡ None = rw (get_or-drop scanned fed count 0) at (cut below) in (
+        omega arith,
+        λ more.
+            let parts : fed ++ more ≡ take n fed ++ (get_or fed n 0 ∷ (drop (n + 1) fed ++ more))
+            = ap (λ (xs : List ℕ). xs ++ more) (sym (take-append-drop n fed)) ∙ append_assoc (take n fed) (drop n fed) more
+            ∙ ap (λ (xs : List ℕ). take n fed ++ (xs ++ more)) (drop_more fed n 0 inside) in
+            ap texts parts ∙ first_cut q (take n fed) (get_or fed n 0) (drop (n + 1) fed ++ more) whole_place none,
+      )
   first_here false e within cut =
       let w = before.within in
       let above : length (drop scanned fed) ≤ count = ltb-false count (length (drop scanned fed)) e in

@@ -63,7 +63,7 @@ module _ (i : Input) (long : (more : List ℕ) → (t : Text) × (ts : List Text
       let scan : scan_of i ≡ ends TooLong = scan_of-with i ∙ scan_long [] i.over in
       let w = long [] in
       let none : passed i.taken i.over (texts i.fed) ≡ 0
-          = ap (λ (bytes : List ℕ). passed i.taken i.over (texts bytes)) (sym (append-nil i.fed)) ∙ ap (passed i.taken i.over) w.2 ∙ passed_long i.taken i.over w.0 w.1 w.3 in
+      = ap (λ (bytes : List ℕ). passed i.taken i.over (texts bytes)) (sym (append-nil i.fed)) ∙ ap (passed i.taken i.over) w.2 ∙ passed_long i.taken i.over w.0 w.1 w.3 in
       record {
         first = rw scan refl;
         left = rw none (sym (front_none i));

@@ -6,16 +6,17 @@ ghost use Rattle.sql_tokens.specs.FirstText.{IsFirst};
 ghost use Rattle.sql_tokens.specs.Splitting.{Input, scan_of, taken_from, IsCommand, without_front, Takes, SameTake};
 
 mod place;
+#[cfg(test)]
+mod tests;
 mod text;
 mod took;
-
-pub use took::Took;
 
 use place::Place;
 use q_base::NoMemory;
 use std::alloc::Global;
 use std::marker::Model;
 use text::{Found, Reading, exceeds, find_text, read};
+pub use took::Took;
 
 /// Cuts a script into commands while it is fed, piece by piece. Each byte is scanned once.
 #[derive(Debug, Drop)]

@@ -49,12 +49,18 @@ impl Place {
             Place::Quoted { .. } | Place::LineComment { .. } => Some(self),
             Place::Comment { blank, depth } => Some(in_comment(blank, depth, byte)),
             Place::CommentStar { blank, depth } => match byte {
-                b'/' if depth > 1 => Some(Place::Comment { blank, depth: depth - 1 }),
+                b'/' if depth > 1 => Some(Place::Comment {
+                    blank,
+                    depth: depth - 1,
+                }),
                 b'/' => Some(Place::Between { blank }),
                 _ => Some(in_comment(blank, depth, byte)),
             },
             Place::CommentSlash { blank, depth } => match byte {
-                b'*' => Some(Place::Comment { blank, depth: depth + 1 }),
+                b'*' => Some(Place::Comment {
+                    blank,
+                    depth: depth + 1,
+                }),
                 _ => Some(in_comment(blank, depth, byte)),
             },
             Place::BackslashLine if byte == b'\n' => None,
@@ -83,7 +89,9 @@ fn between(blank: bool, byte: u8) -> Option<Place>
         b'/' => Some(Place::AfterSlash { blank }),
         b'\\' if blank => Some(Place::BackslashLine),
         b';' => None,
-        _ => Some(Place::Between { blank: blank && is_blank(byte) }),
+        _ => Some(Place::Between {
+            blank: blank && is_blank(byte),
+        }),
     }
 }
 
