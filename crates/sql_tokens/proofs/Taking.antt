@@ -1,16 +1,15 @@
-use Rattle.std.proofs.Common.{◌≡◌, ℕ, ◌+◌, ◌-◌, ◌^◌, ◌<◌, ◌≤◌, Bool, true, false, cond, not, ◌||◌, List, [], ◌∷◌, ◌++◌, length, take, drop, refl, ap, sym, ◌∙◌, arith, add-zero, add_assoc}
+use Rattle.std.proofs.Common.{◌≡◌, ℕ, ◌+◌, ◌^◌, ◌<◌, ◌≤◌, Bool, true, false, cond, not, ◌||◌, List, [], ◌∷◌, ◌++◌, length, take, drop, refl, ap, sym, ◌∙◌, arith, add-zero, add_assoc}
 use Rattle.std.specs.Prelude.{nat_lt, Result, Ok, Err, OnErr}
 use Rattle.std.specs.Str.{is_utf8}
 use Rattle.std.proofs.lemmas.List.{append-nil, drop-drop, length-take-le}
 use Rattle.std.proofs.lemmas.Bool.{ltb-true, ltb-false, lt-ltb, le-ltb}
 use Rattle.std.proofs.lemmas.Str.{IsUtf8-nil, is_utf8-from_IsUtf8}
 use Rattle.std.proofs.Math.Seq.{take-length, drop-length}
-use Rattle.sql_tokens.specs.Script.{Content, Text, texts, size, is_blanks, is_whole, is_too_long, Blanks, Over, NotYet, NotText, TooLong, Scan, ends, with_text, judge, scan_from}
-use Rattle.sql_tokens.specs.FirstText.{IsFirst, IsLonger, exceeds, reading_of}
-use Rattle.sql_tokens.specs.Splitting.{Input, scan_of, scan_with, passed, without_front, after_take, Takes, SameTake, Precedes}
+use Rattle.sql_tokens.specs.Script.{Content, Text, texts, size, is_blanks, is_whole, is_too_long, Blanks, Over, NotYet, NotText, TooLong, ends, with_text, judge, scan_from}
+use Rattle.sql_tokens.specs.FirstText.{IsFirst, exceeds, reading_of}
+use Rattle.sql_tokens.specs.Splitting.{Input, scan_of, scan_with, passed, without_front, Takes, SameTake, Precedes}
 use Rattle.sql_tokens.specs.declared.splitter.text.Reading.{Reading}
 use Rattle.sql_tokens.specs.declared.splitter.text.Reading.TheVariants as reading
-use Rattle.sql_tokens.specs.declared.splitter.took.Took.{Took}
 use Rattle.sql_tokens.specs.declared.splitter.took.Took.TheVariants as took
 
 -- What a take gives at the first text.

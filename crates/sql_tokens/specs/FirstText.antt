@@ -1,4 +1,4 @@
-use Rattle.std.specs.Prelude.{ℕ, ◌+◌, ◌^◌, ◌≡◌, ◌≤◌, nat_lt, Bool, true, false, ◌||◌, if◌then◌else◌, Option, Some, List, [], ◌∷◌, ◌++◌, length, take, drop}
+use Rattle.std.specs.Prelude.{ℕ, ◌+◌, ◌^◌, ◌≡◌, ◌≤◌, nat_lt, Bool, true, false, ◌||◌, if◌then◌else◌, Some, List, [], ◌∷◌, ◌++◌, length, take, drop}
 use Rattle.std.specs.Str.{is_utf8}
 use Rattle.sql_tokens.specs.declared.splitter.place.Place.{Place}
 use Rattle.sql_tokens.specs.declared.splitter.place.Place.TheVariants.{Between}

@@ -1,4 +1,4 @@
-use Rattle.std.specs.Prelude.{ℕ, ◌+◌, ◌-◌, ◌≡◌, ◌≤◌, ◌==◌, nat_lt, Bool, true, false, ◌&&◌, ◌||◌, if◌then◌else◌, Option, None, Some, option_and_then, List, [], ◌∷◌, length, take}
+use Rattle.std.specs.Prelude.{ℕ, ◌+◌, ◌-◌, ◌==◌, nat_lt, Bool, true, false, ◌&&◌, ◌||◌, if◌then◌else◌, Option, None, Some, option_and_then, List, [], ◌∷◌}
 use Rattle.sql_tokens.specs.declared.splitter.place.Place.{Place}
 use Rattle.sql_tokens.specs.declared.splitter.place.Place.TheVariants.{Between, AfterMinus, AfterSlash, Quoted, LineComment, Comment, CommentStar, CommentSlash, BackslashLine}
 use Rattle.sql_tokens.specs.Script.{Content, Blanks, More, Line, is_blank}

@@ -1,8 +1,8 @@
-use Rattle.std.specs.Prelude.{ℕ, ◌+◌, ◌-◌, ◌^◌, ◌≡◌, ◌≤◌, Bool, true, false, not, ◌||◌, if◌then◌else◌, Option, Some, List, [], ◌∷◌, ◌++◌, length, take, drop}
+use Rattle.std.specs.Prelude.{ℕ, ◌+◌, ◌≡◌, Bool, false, not, ◌||◌, if◌then◌else◌, List, [], ◌∷◌, ◌++◌, drop}
 use Rattle.std.specs.Str.{is_utf8}
 use Rattle.sql_tokens.specs.declared.splitter.took.Took.{Took}
 use Rattle.sql_tokens.specs.declared.splitter.took.Took.TheVariants as took
-use Rattle.sql_tokens.specs.Script.{Content, Text, texts, is_blanks, size, is_whole, is_too_long, Verdict, Over, NotYet, NotText, TooLong, Scan, ends, scan_from}
+use Rattle.sql_tokens.specs.Script.{Text, texts, is_blanks, size, is_whole, is_too_long, Verdict, Over, NotYet, NotText, TooLong, Scan, ends, scan_from}
 
 -- What a splitter was fed: how many bytes were cut off with the texts before, the bytes since, and
 -- whether these are all that is left.

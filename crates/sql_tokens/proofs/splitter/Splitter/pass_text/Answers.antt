@@ -1,4 +1,4 @@
-use Rattle.std.proofs.Common.{◌≡◌, ℕ, false, true, take, sym, ap, subst, ◌∙◌}
+use Rattle.std.proofs.Common.{◌≡◌, ℕ, true, take, sym, ap, subst, ◌∙◌}
 use Rattle.sql_tokens.specs.declared.splitter.text.Reading.TheVariants as reading
 use Rattle.sql_tokens.specs.Places.{content_at}
 use Rattle.sql_tokens.specs.FirstText.{exceeds}
