@@ -1,6 +1,6 @@
 //! Cutting a script, however it is fed, into its commands.
 
-ghost use Rattle.std.specs.Prelude.{◌≡◌, ◌+◌, ◌^◌, ◌<◌, ◌≤◌, ◌++◌, [], true, false, length, IfOk, OnOk, OnErr, IfSome, IfNone, OnSome, MatchOption};
+ghost use Rattle.std.specs.Prelude.{◌≡◌, ◌+◌, ◌^◌, ◌<◌, ◌≤◌, ◌++◌, [], true, false, length, IfOk, OnOk, OnErr, IfSome, IfNone};
 ghost use Rattle.sql_tokens.specs.Places.{content_at};
 ghost use Rattle.sql_tokens.specs.FirstText.{IsFirst};
 ghost use Rattle.sql_tokens.specs.Splitting.{Input, scan_of, taken_from, IsCommand, without_front, Takes, SameTake};
@@ -18,7 +18,13 @@ use std::marker::Model;
 use text::{Found, Reading, exceeds, find_text, read};
 pub use took::Took;
 
-/// Cuts a script into commands while it is fed, piece by piece. Each byte is scanned once.
+/// Cuts a script into commands while it is fed, piece by piece.
+///
+/// Strings, quoted identifiers and comments are those of PostgreSQL's manual, "Lexical Structure", with
+/// standard strings; a command ends at a `;` as in psql. That a command which begins with a `\` is a line
+/// of its own, and the limits, 2^20 bytes of a command and 2^30 of a script, are this project's own.
+///
+/// Each byte is scanned once, however it is fed. What is kept are the bytes that no take passed.
 #[derive(Debug, Drop)]
 pub struct Splitter {
     alloc: Global,
@@ -80,7 +86,7 @@ impl Splitter {
         self.over = true;
     }
 
-    /// The next command, or why there is none now.
+    /// The next command, or why there is none now. After `NotText` or `TooLong` each take gives the same.
     pub fn take(&mut self) -> Result<Took, NoMemory>
         ensures ok { IfOk result (λ took. Takes took self.old self.new) }
         ensures err { OnErr result (SameTake self.old self.new) }
