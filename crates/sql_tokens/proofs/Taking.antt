@@ -66,8 +66,8 @@ module _ (i : Input) (long : (more : List ℕ) → (t : Text) × (ts : List Text
       record {
         first = rw scan refl;
         left = rw none (sym (front_none i));
-        rest = scan;
-        further = λ o more over. scan_long more over;
+        rest = (scan, scan);
+        further = λ o more over. (scan_long more over, scan_long more over);
       }
 
 -- a text, and its cut where it has one
@@ -111,8 +111,8 @@ module _ (i : Input) (n : ℕ) (content : Content) (first : IsFirst i.fed n cont
       record {
         first = rw scan refl;
         left = rw none (sym (front_none i));
-        rest = scan;
-        further = λ o more over. with more over;
+        rest = (scan, scan);
+        further = λ o more over. (with more over, with more over);
       }
 
   pub passes_blank : exceeds i.taken n true ≡ false → is_utf8 (take n i.fed) ≡ true → is_blanks content ≡ true → SameTake i (without_front (n + 1) i)
@@ -192,8 +192,8 @@ module _ (i : Input) (n : ℕ) (content : Content) (first : IsFirst i.fed n cont
       record {
         first = rw scan refl;
         left = rw none (sym (front_none i));
-        rest = scan;
-        further = λ open' more over. cc;
+        rest = (scan, scan);
+        further = λ open' more over. absurd cc;
       }
 
   fits_script : exceeds i.taken n false ≡ false → i.taken + n ≤ 2 ^ 30

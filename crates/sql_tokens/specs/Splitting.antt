@@ -40,8 +40,8 @@ abbrev pub Precedes : Took → Scan → Scan → Type 0
 Precedes (took.Command command) old new = old ≡ record new { commands = command ∷ new.commands }
 Precedes took.NotYet old new = old ≡ new
 Precedes took.Over old new = old ≡ new
-Precedes took.NotText old new = old ≡ ends NotText
-Precedes took.TooLong old new = old ≡ ends TooLong
+Precedes took.NotText old new = (old ≡ ends NotText) × (new ≡ ends NotText)
+Precedes took.TooLong old new = (old ≡ ends TooLong) × (new ≡ ends TooLong)
 
 -- the scan where more was fed
 abbrev pub scan_with : Input → List ℕ → Bool → Scan
