@@ -1,29 +1,29 @@
-use Rattle.std.proofs.Common.{◌≡◌, ℕ, zero, suc, pred, ◌+◌, ◌-◌, Bool, true, false, cond, ◌&&◌, ◌==◌, Option, None, Some, List, [], ◌∷◌, length, refl, ap, sym, subst, ◌∙◌}
+use Rattle.std.proofs.Common.{◌≡◌, ℕ, suc, pred, ◌+◌, ◌-◌, Bool, true, false, cond, ◌&&◌, ◌==◌, Option, None, Some, List, [], ◌∷◌, refl, ap, sym, subst, ◌∙◌}
 use Rattle.std.specs.Prelude.{option_map, nat_lt}
 use Rattle.std.proofs.lemmas.Bool.{eqb-true}
 use Rattle.sql_tokens.specs.declared.splitter.place.Place.{Place}
 use Rattle.sql_tokens.specs.declared.splitter.place.Place.TheVariants.{Between, AfterMinus, AfterSlash, Quoted, LineComment, Comment, CommentStar, CommentSlash, BackslashLine}
-use Rattle.sql_tokens.specs.Script.{Before, Blanks, More, Line, Part, Text, is_blank, until, through, comment_length, comment, part, with_byte, texts_from, texts}
-use Rattle.sql_tokens.specs.Places.{between, in_comment, after, blanks_if, held}
+use Rattle.sql_tokens.specs.Script.{Content, Blanks, More, Line, Part, Text, is_blank, until, through, comment_length, comment, part, with_byte, texts_from, texts}
+use Rattle.sql_tokens.specs.Places.{between, in_comment, after, blanks_if, content_at}
 
 -- The texts that are found byte by byte are those of the parts.
 
 abbrev pub one_more : Place → ℕ → Option Place → (Place → List Text) → List Text
-one_more place b None texts = record { bytes = []; holds = held place; cut = true } ∷ texts (Between true)
+one_more place b None texts = record { bytes = []; content = content_at place; cut = true } ∷ texts (Between true)
 one_more place b (Some next) texts = with_byte b (texts next)
 
 -- the texts, byte by byte
 abbrev pub texts_at : Place → List ℕ → List Text
-texts_at place [] = record { bytes = []; holds = held place; cut = false } ∷ []
+texts_at place [] = record { bytes = []; content = content_at place; cut = false } ∷ []
 texts_at place (b ∷ bytes) = one_more place b (after place b) (λ next. texts_at next bytes)
 
 -- the texts after the first byte of a part
 abbrev behind : Part → List ℕ → List Text
-behind p bytes = texts_from p.before (pred p.length) bytes
+behind p bytes = texts_from p.content (pred p.length) bytes
 
 -- the texts of bytes that begin with a part
 abbrev at_part : Part → List ℕ → List Text
-at_part p bytes = texts_from p.before p.length bytes
+at_part p bytes = texts_from p.content p.length bytes
 
 record Agrees (bytes : List ℕ) : Type 0 where
   at_between : (f : Bool) → texts_at (Between f) bytes ≡ texts_from (blanks_if f) 0 bytes
@@ -72,22 +72,22 @@ comment_plain d b [] h k = refl
 comment_plain d b (c ∷ bytes) h k = rw (h, k) refl
 
 -- the first byte of a comment, and the bytes after it
-split_more : (before : Before) (b : ℕ) (bytes : List ℕ) (o : Option ℕ) → IsMore o → with_byte b (behind (comment before (b ∷ bytes) o) bytes) ≡ at_part (comment before (b ∷ bytes) o) (b ∷ bytes)
-split_more before b bytes o (None, e) = rw e refl
-split_more before b bytes o (Some n, e) = rw e refl
+split_more : (content : Content) (b : ℕ) (bytes : List ℕ) (o : Option ℕ) → IsMore o → with_byte b (behind (comment content (b ∷ bytes) o) bytes) ≡ at_part (comment content (b ∷ bytes) o) (b ∷ bytes)
+split_more content b bytes o (None, e) = rw e refl
+split_more content b bytes o (Some n, e) = rw e refl
 
 -- a byte before a comment's rest belongs to the comment
-at_part-suc : (before : Before) (b : ℕ) (bytes : List ℕ) (o : Option ℕ) → with_byte b (at_part (comment before bytes o) bytes) ≡ at_part (comment before (b ∷ bytes) (option_map suc o)) (b ∷ bytes)
-at_part-suc before b bytes None = refl
-at_part-suc before b bytes (Some n) = refl
+at_part-suc : (content : Content) (b : ℕ) (bytes : List ℕ) (o : Option ℕ) → with_byte b (at_part (comment content bytes o) bytes) ≡ at_part (comment content (b ∷ bytes) (option_map suc o)) (b ∷ bytes)
+at_part-suc content b bytes None = refl
+at_part-suc content b bytes (Some n) = refl
 
-behind-suc : (before : Before) (b : ℕ) (bytes : List ℕ) (o : Option ℕ) → behind (comment before (b ∷ bytes) (option_map suc o)) bytes ≡ at_part (comment before bytes o) bytes
-behind-suc before b bytes None = refl
-behind-suc before b bytes (Some n) = refl
+behind-suc : (content : Content) (b : ℕ) (bytes : List ℕ) (o : Option ℕ) → behind (comment content (b ∷ bytes) (option_map suc o)) bytes ≡ at_part (comment content bytes o) bytes
+behind-suc content b bytes None = refl
+behind-suc content b bytes (Some n) = refl
 
-behind-two : (before : Before) (a b : ℕ) (bytes : List ℕ) (o : Option ℕ) → with_byte b (at_part (comment before bytes o) bytes) ≡ behind (comment before (a ∷ b ∷ bytes) (option_map (λ n. suc (suc n)) o)) (b ∷ bytes)
-behind-two before a b bytes None = refl
-behind-two before a b bytes (Some n) = refl
+behind-two : (content : Content) (a b : ℕ) (bytes : List ℕ) (o : Option ℕ) → with_byte b (at_part (comment content bytes o) bytes) ≡ behind (comment content (a ∷ b ∷ bytes) (option_map (λ n. suc (suc n)) o)) (b ∷ bytes)
+behind-two content a b bytes None = refl
+behind-two content a b bytes (Some n) = refl
 
 module _ (bytes : List ℕ) (i : Agrees bytes) where
   plain_along : (f : Bool) (b : ℕ) (v : Bool) → with_byte b (texts_at (Between (f && v)) bytes) ≡ with_byte b (texts_from (cond v (blanks_if f) More) 0 bytes)
@@ -103,7 +103,7 @@ module _ (bytes : List ℕ) (i : Agrees bytes) where
       by_byte P 45 b (ap (with_byte 45) (i.at_minus true)) (λ h45.
       by_byte P 47 b (ap (with_byte 47) (i.at_slash true)) (λ h47.
       by_byte P 92 b (ap (with_byte 92) i.at_backslash) (λ h92.
-      by_byte P 59 b (ap (λ (ts : List Text). record { bytes = []; holds = Blanks; cut = true } ∷ ts) (i.at_between true)) (λ h59.
+      by_byte P 59 b (ap (λ (ts : List Text). record { bytes = []; content = Blanks; cut = true } ∷ ts) (i.at_between true)) (λ h59.
       rw (h39, h34, h45, h47, h92, h59) (plain_along true b (is_blank b))))))))
 
   between_more : (b : ℕ) → texts_at (Between false) (b ∷ bytes) ≡ texts_from More 0 (b ∷ bytes)
@@ -113,7 +113,7 @@ module _ (bytes : List ℕ) (i : Agrees bytes) where
       by_byte P 45 b (ap (with_byte 45) (i.at_minus false)) (λ h45.
       by_byte P 47 b (ap (with_byte 47) (i.at_slash false)) (λ h47.
       by_byte P 92 b (ap (with_byte 92) (i.at_between false)) (λ h92.
-      by_byte P 59 b (ap (λ (ts : List Text). record { bytes = []; holds = More; cut = true } ∷ ts) (i.at_between true)) (λ h59.
+      by_byte P 59 b (ap (λ (ts : List Text). record { bytes = []; content = More; cut = true } ∷ ts) (i.at_between true)) (λ h59.
       rw (h39, h34, h45, h47, h92, h59) (plain_along false b (is_blank b))))))))
 
   between_step : (f : Bool) (b : ℕ) → texts_at (Between f) (b ∷ bytes) ≡ texts_from (blanks_if f) 0 (b ∷ bytes)
@@ -123,7 +123,7 @@ module _ (bytes : List ℕ) (i : Agrees bytes) where
   minus_step : (f : Bool) (b : ℕ) → texts_at (AfterMinus f) (b ∷ bytes) ≡ behind (part (blanks_if f) 45 (b ∷ bytes)) (b ∷ bytes)
   minus_step f b = by_byte (λ b. texts_at (AfterMinus f) (b ∷ bytes) ≡ behind (part (blanks_if f) 45 (b ∷ bytes)) (b ∷ bytes)) 45 b
       (ap (with_byte 45) (i.at_line f))
-      (λ h. subst (λ v. one_more (AfterMinus f) b (cond v (Some (LineComment f)) (between false b)) (λ next. texts_at next bytes) ≡ behind (cond v (record { length = suc (until 10 (b ∷ bytes)); before = blanks_if f }) (record { length = 1; before = More })) (b ∷ bytes)) (sym h) (between_step false b))
+      (λ h. subst (λ v. one_more (AfterMinus f) b (cond v (Some (LineComment f)) (between false b)) (λ next. texts_at next bytes) ≡ behind (cond v (record { length = suc (until 10 (b ∷ bytes)); content = blanks_if f }) (record { length = 1; content = More })) (b ∷ bytes)) (sym h) (between_step false b))
 
   in_comment_step : (f : Bool) (d b : ℕ) → with_byte b (texts_at (in_comment f d b) bytes) ≡ at_part (comment (blanks_if f) (b ∷ bytes) (comment_length d (b ∷ bytes))) (b ∷ bytes)
   in_comment_step f d b = let P : ℕ → Type 0 = λ b. with_byte b (texts_at (in_comment f d b) bytes) ≡ at_part (comment (blanks_if f) (b ∷ bytes) (comment_length d (b ∷ bytes))) (b ∷ bytes) in
@@ -165,7 +165,7 @@ module _ (bytes : List ℕ) (i : Agrees bytes) where
 
   backslash_step : (b : ℕ) → texts_at BackslashLine (b ∷ bytes) ≡ texts_from Line (until 10 (b ∷ bytes)) (b ∷ bytes)
   backslash_step b = by_byte (λ b. texts_at BackslashLine (b ∷ bytes) ≡ texts_from Line (until 10 (b ∷ bytes)) (b ∷ bytes)) 10 b
-      (ap (λ (ts : List Text). record { bytes = []; holds = Line; cut = true } ∷ ts) (i.at_between true))
+      (ap (λ (ts : List Text). record { bytes = []; content = Line; cut = true } ∷ ts) (i.at_between true))
       (λ h. rw h (ap (with_byte b) i.at_backslash))
 
 agrees : (bytes : List ℕ) → Agrees bytes

@@ -1,10 +1,10 @@
-use Rattle.std.specs.Prelude.{ℕ, ◌+◌, ◌^◌, ◌≡◌, ◌≤◌, nat_lt, Bool, true, false, ◌||◌, if◌then◌else◌, Option, Some, List, [], ◌∷◌, ◌++◌, length, take, drop}
+use Rattle.std.specs.Prelude.{ℕ, ◌+◌, ◌^◌, ◌≡◌, ◌≤◌, nat_lt, Bool, true, false, ◌||◌, if◌then◌else◌, Some, List, [], ◌∷◌, ◌++◌, length, take, drop}
 use Rattle.std.specs.Str.{is_utf8}
 use Rattle.sql_tokens.specs.declared.splitter.place.Place.{Place}
 use Rattle.sql_tokens.specs.declared.splitter.place.Place.TheVariants.{Between}
 use Rattle.sql_tokens.specs.declared.splitter.text.Reading.{Reading}
 use Rattle.sql_tokens.specs.declared.splitter.text.Reading.TheVariants as reading
-use Rattle.sql_tokens.specs.Script.{Before, Text, texts}
+use Rattle.sql_tokens.specs.Script.{Content, Text, texts}
 use Rattle.sql_tokens.specs.Places.{depth_of, place_after}
 
 -- The first text of what was fed, of which some bytes were scanned before.
@@ -29,13 +29,13 @@ pub record IsLonger (fed more : List ℕ) : Type 0 where
   pub longer : length fed ≤ length text.bytes
 
 -- the first `length` bytes are the first text, and a cut stands after them, or they are all
-abbrev pub IsFirst : List ℕ → ℕ → Before → Bool → Type 0
-IsFirst fed count holds true =
+abbrev pub IsFirst : List ℕ → ℕ → Content → Bool → Type 0
+IsFirst fed count content true =
     (count + 1 ≤ length fed)
-    × ((more : List ℕ) → texts (fed ++ more) ≡ record { bytes = take count fed; holds = holds; cut = true } ∷ texts (drop (count + 1) fed ++ more))
-IsFirst fed count holds false =
+    × ((more : List ℕ) → texts (fed ++ more) ≡ record { bytes = take count fed; content = content; cut = true } ∷ texts (drop (count + 1) fed ++ more))
+IsFirst fed count content false =
     (count ≡ length fed)
-    × (texts fed ≡ record { bytes = fed; holds = holds; cut = false } ∷ [])
+    × (texts fed ≡ record { bytes = fed; content = content; cut = false } ∷ [])
     × ((more : List ℕ) → IsLonger fed more)
 
 abbrev pub exceeds : ℕ → ℕ → Bool → Bool

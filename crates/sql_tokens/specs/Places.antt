@@ -1,7 +1,7 @@
-use Rattle.std.specs.Prelude.{ℕ, ◌+◌, ◌-◌, ◌≡◌, ◌≤◌, ◌==◌, nat_lt, Bool, true, false, ◌&&◌, ◌||◌, if◌then◌else◌, Option, None, Some, option_and_then, List, [], ◌∷◌, length, take}
+use Rattle.std.specs.Prelude.{ℕ, ◌+◌, ◌-◌, ◌==◌, nat_lt, Bool, true, false, ◌&&◌, ◌||◌, if◌then◌else◌, Option, None, Some, option_and_then, List, [], ◌∷◌}
 use Rattle.sql_tokens.specs.declared.splitter.place.Place.{Place}
 use Rattle.sql_tokens.specs.declared.splitter.place.Place.TheVariants.{Between, AfterMinus, AfterSlash, Quoted, LineComment, Comment, CommentStar, CommentSlash, BackslashLine}
-use Rattle.sql_tokens.specs.Script.{Before, Blanks, More, Line, is_blank}
+use Rattle.sql_tokens.specs.Script.{Content, Blanks, More, Line, is_blank}
 
 -- How a splitter follows the bytes of a text, one by one.
 
@@ -44,21 +44,21 @@ depth_of (CommentStar blank depth) = depth
 depth_of (CommentSlash blank depth) = depth
 depth_of BackslashLine = 0
 
-abbrev pub blanks_if : Bool → Before
+abbrev pub blanks_if : Bool → Content
 blanks_if true = Blanks
 blanks_if false = More
 
 -- what a text has that ends there
-abbrev pub held : Place → Before
-held (Between blank) = blanks_if blank
-held (AfterMinus blank) = More
-held (AfterSlash blank) = More
-held (Quoted quote) = More
-held (LineComment blank) = blanks_if blank
-held (Comment blank depth) = More
-held (CommentStar blank depth) = More
-held (CommentSlash blank depth) = More
-held BackslashLine = Line
+abbrev pub content_at : Place → Content
+content_at (Between blank) = blanks_if blank
+content_at (AfterMinus blank) = More
+content_at (AfterSlash blank) = More
+content_at (Quoted quote) = More
+content_at (LineComment blank) = blanks_if blank
+content_at (Comment blank depth) = More
+content_at (CommentStar blank depth) = More
+content_at (CommentSlash blank depth) = More
+content_at BackslashLine = Line
 
 -- the place after the bytes, where none of them is a cut
 abbrev pub place_after : Place → List ℕ → Option Place

@@ -1,8 +1,8 @@
-use Rattle.std.specs.Prelude.{ℕ, ◌+◌, ◌-◌, ◌^◌, ◌≡◌, ◌≤◌, Bool, true, false, not, ◌||◌, if◌then◌else◌, Option, Some, List, [], ◌∷◌, ◌++◌, length, take, drop}
+use Rattle.std.specs.Prelude.{ℕ, ◌+◌, ◌≡◌, Bool, false, not, ◌||◌, if◌then◌else◌, List, [], ◌∷◌, ◌++◌, drop}
 use Rattle.std.specs.Str.{is_utf8}
 use Rattle.sql_tokens.specs.declared.splitter.took.Took.{Took}
 use Rattle.sql_tokens.specs.declared.splitter.took.Took.TheVariants as took
-use Rattle.sql_tokens.specs.Script.{Before, Text, texts, is_blanks, size, is_whole, is_too_long, Verdict, Over, NotYet, NotText, TooLong, Scan, ends, scan_from}
+use Rattle.sql_tokens.specs.Script.{Text, texts, is_blanks, size, is_whole, is_too_long, Verdict, Over, NotYet, NotText, TooLong, Scan, ends, scan_from}
 
 -- What a splitter was fed: how many bytes were cut off with the texts before, the bytes since, and
 -- whether these are all that is left.
@@ -28,13 +28,20 @@ first_of (command ∷ commands) verdict = took.Command command
 abbrev pub taken_from : Scan → Took
 taken_from scan = first_of scan.commands scan.verdict
 
+abbrev pub IsCommand : Took → Type 0
+IsCommand (took.Command command) = Unit {0}
+IsCommand took.NotYet = ⊥
+IsCommand took.Over = ⊥
+IsCommand took.NotText = ⊥
+IsCommand took.TooLong = ⊥
+
 -- what was taken stands before the new scan in the old one
 abbrev pub Precedes : Took → Scan → Scan → Type 0
 Precedes (took.Command command) old new = old ≡ record new { commands = command ∷ new.commands }
 Precedes took.NotYet old new = old ≡ new
 Precedes took.Over old new = old ≡ new
-Precedes took.NotText old new = old ≡ ends NotText
-Precedes took.TooLong old new = old ≡ ends TooLong
+Precedes took.NotText old new = (old ≡ ends NotText) × (new ≡ ends NotText)
+Precedes took.TooLong old new = (old ≡ ends TooLong) × (new ≡ ends TooLong)
 
 -- the scan where more was fed
 abbrev pub scan_with : Input → List ℕ → Bool → Scan
@@ -46,7 +53,7 @@ abbrev pub passed : ℕ → Bool → List Text → ℕ
 passed taken over [] = 0
 passed taken over (text ∷ texts) =
     if is_too_long taken text || not (is_whole over text) || not (is_utf8 text.bytes) then 0
-    else size text + (if is_blanks text.holds then passed (taken + size text) over texts else 0)
+    else size text + (if is_blanks text.content then passed (taken + size text) over texts else 0)
 
 abbrev pub without_front : ℕ → Input → Input
 without_front n input = record { taken = input.taken + n; fed = drop n input.fed; over = input.over }

@@ -1,23 +1,30 @@
 //! Cutting a script, however it is fed, into its commands.
 
-ghost use Rattle.std.specs.Prelude.{◌≡◌, ◌+◌, ◌^◌, ◌<◌, ◌≤◌, ◌++◌, [], true, false, length, IfOk, OnOk, OnErr, IfSome, IfNone, OnSome, MatchOption};
-ghost use Rattle.sql_tokens.specs.Places.{held};
+ghost use Rattle.std.specs.Prelude.{◌≡◌, ◌+◌, ◌^◌, ◌<◌, ◌≤◌, ◌++◌, [], true, false, length, IfOk, OnOk, OnErr, IfSome, IfNone};
+ghost use Rattle.sql_tokens.specs.Places.{content_at};
 ghost use Rattle.sql_tokens.specs.FirstText.{IsFirst};
-ghost use Rattle.sql_tokens.specs.Splitting.{Input, without_front, Takes, SameTake};
+ghost use Rattle.sql_tokens.specs.Splitting.{Input, scan_of, taken_from, IsCommand, without_front, Takes, SameTake};
 
 mod place;
+#[cfg(test)]
+mod tests;
 mod text;
 mod took;
-
-pub use took::Took;
 
 use place::Place;
 use q_base::NoMemory;
 use std::alloc::Global;
 use std::marker::Model;
 use text::{Found, Reading, exceeds, find_text, read};
+pub use took::Took;
 
-/// Cuts a script into commands while it is fed, piece by piece. Each byte is scanned once.
+/// Cuts a script into commands while it is fed, piece by piece.
+///
+/// Strings, quoted identifiers and comments are those of PostgreSQL's manual, "Lexical Structure", with
+/// standard strings; a command ends at a `;` as in psql. That a command which begins with a `\` is a line
+/// of its own, and the limits, 2^20 bytes of a command and 2^30 of a script, are this project's own.
+///
+/// Each byte is scanned once, however it is fed. What is kept are the bytes that no take passed.
 #[derive(Debug, Drop)]
 pub struct Splitter {
     alloc: Global,
@@ -79,10 +86,12 @@ impl Splitter {
         self.over = true;
     }
 
-    /// The next command, or why there is none now.
+    /// The next command, or why there is none now. After `NotText` or `TooLong` each take gives the same.
     pub fn take(&mut self) -> Result<Took, NoMemory>
         ensures ok { IfOk result (λ took. Takes took self.old self.new) }
         ensures err { OnErr result (SameTake self.old self.new) }
+        // Memory is taken for a command alone.
+        ensures memory { OnErr result (IsCommand (taken_from (scan_of self.old))) }
     {
         loop {
             if let Some(took) = self.pass_text()? {
@@ -97,6 +106,7 @@ impl Splitter {
         ensures none { IfOk result (λ o. IfNone o (SameTake self.old self.new)) }
         ensures less { IfOk result (λ o. IfNone o (length self.new.fed < length self.old.fed)) }
         ensures err { OnErr result (self.new ≡ self.old) }
+        ensures memory { OnErr result (IsCommand (taken_from (scan_of self.old))) }
     {
         let found = self.first_text();
         if exceeds(self.taken, &found) {
@@ -127,7 +137,7 @@ impl Splitter {
     /// The first text, of which only the bytes are scanned that weren't before.
     fn first_text(&mut self) -> Found
         ensures same { self.new ≡ self.old }
-        ensures first { IsFirst self.old.fed result.length (held result.place) result.cut }
+        ensures first { IsFirst self.old.fed result.length (content_at result.place) result.cut }
     {
         let found = find_text(&self.buffer[self.begin..], self.scanned, self.place);
         self.scanned = found.length;

@@ -1,6 +1,6 @@
 ghost use Rattle.std.specs.Prelude.{◌≡◌, ◌+◌, ◌-◌, ◌^◌, ◌<◌, ◌≤◌, IfSome};
 ghost use Rattle.sql_tokens.specs.Script.{is_blank, is_blanks};
-ghost use Rattle.sql_tokens.specs.Places.{after, between, depth_of, held, in_comment};
+ghost use Rattle.sql_tokens.specs.Places.{after, between, depth_of, content_at, in_comment};
 
 /// Where a byte stands in its text, as far as the bytes before it in the text tell. `blank` says that
 /// before the part in which it stands the text has only blanks and ended comments.
@@ -25,7 +25,7 @@ pub enum Place {
 }
 
 impl Place {
-    /// Before a text.
+    /// Content a text.
     pub const START: Place = Place::Between { blank: true };
 
     /// The place after `byte`, or `None` where the byte is a cut.
@@ -49,12 +49,18 @@ impl Place {
             Place::Quoted { .. } | Place::LineComment { .. } => Some(self),
             Place::Comment { blank, depth } => Some(in_comment(blank, depth, byte)),
             Place::CommentStar { blank, depth } => match byte {
-                b'/' if depth > 1 => Some(Place::Comment { blank, depth: depth - 1 }),
+                b'/' if depth > 1 => Some(Place::Comment {
+                    blank,
+                    depth: depth - 1,
+                }),
                 b'/' => Some(Place::Between { blank }),
                 _ => Some(in_comment(blank, depth, byte)),
             },
             Place::CommentSlash { blank, depth } => match byte {
-                b'*' => Some(Place::Comment { blank, depth: depth + 1 }),
+                b'*' => Some(Place::Comment {
+                    blank,
+                    depth: depth + 1,
+                }),
                 _ => Some(in_comment(blank, depth, byte)),
             },
             Place::BackslashLine if byte == b'\n' => None,
@@ -64,7 +70,7 @@ impl Place {
 
     /// Whether a text that ends here has blanks and ended comments alone.
     pub fn ends_blank(self) -> bool
-        ensures { result ≡ is_blanks (held self) }
+        ensures { result ≡ is_blanks (content_at self) }
     {
         match self {
             Place::Between { blank } | Place::LineComment { blank } => blank,
@@ -83,7 +89,9 @@ fn between(blank: bool, byte: u8) -> Option<Place>
         b'/' => Some(Place::AfterSlash { blank }),
         b'\\' if blank => Some(Place::BackslashLine),
         b';' => None,
-        _ => Some(Place::Between { blank: blank && is_blank(byte) }),
+        _ => Some(Place::Between {
+            blank: blank && is_blank(byte),
+        }),
     }
 }
 

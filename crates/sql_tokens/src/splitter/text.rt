@@ -1,5 +1,6 @@
-ghost use Rattle.std.specs.Prelude.{◌≡◌, ◌+◌, ◌-◌, ◌^◌, ◌<◌, ◌≤◌, Some, None, length, take, slice_index, IfOk, ◌||◌, if◌then◌else◌};
-ghost use Rattle.sql_tokens.specs.Places.{after, depth_of, held, place_after};
+ghost use Rattle.std.specs.Prelude.{◌≡◌, ◌+◌, ◌-◌, ◌^◌, ◌<◌, ◌≤◌, Some, None, length, take, slice_index, true, false, IfOk, OnErr, ◌||◌, if◌then◌else◌};
+ghost use Rattle.std.specs.Str.{is_utf8};
+ghost use Rattle.sql_tokens.specs.Places.{after, depth_of, content_at, place_after};
 ghost use Rattle.sql_tokens.specs.FirstText.{IsScanned, IsFirst, exceeds, reading_of};
 
 use crate::splitter::place::Place;
@@ -47,7 +48,7 @@ pub enum Reading {
 pub fn find_text(fed: &[u8], scanned: usize, place: Place) -> Found
     requires { IsScanned fed.now scanned place }
     ensures scanned { IsScanned fed.now result.length result.place }
-    ensures first { IsFirst fed.now result.length (held result.place) result.cut }
+    ensures first { IsFirst fed.now result.length (content_at result.place) result.cut }
 {
     let rest = &fed[scanned..];
     let (count, place) = advance(rest, place);
@@ -86,7 +87,8 @@ pub fn exceeds(taken: usize, found: &Found) -> bool
 
 /// What the whole text of these bytes is. It is copied only where it is a command.
 pub fn read(alloc: Global, bytes: &[u8], blank: bool) -> Result<Reading, NoMemory>
-    ensures { IfOk result (λ reading. reading ≡ reading_of bytes.now blank) }
+    ensures ok { IfOk result (λ reading. reading ≡ reading_of bytes.now blank) }
+    ensures err { OnErr result ((is_utf8 bytes.now ≡ true) × (blank ≡ false)) }
 {
     match str::from_utf8(bytes) {
         Err(_) => Ok(Reading::NotText),

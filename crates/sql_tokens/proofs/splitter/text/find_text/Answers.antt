@@ -1,7 +1,7 @@
-use Rattle.std.proofs.Common.{◌≡◌, ℕ, ◌+◌, ◌<◌, ◌≤◌, Some, None, List, length, take, drop, get_or, subst, sym, refl, ap}
+use Rattle.std.proofs.Common.{◌≡◌, ℕ, ◌+◌, ◌<◌, ◌≤◌, Some, None, List, length, take, drop, get_or, refl}
 use Rattle.std.specs.Prelude.{nat_lt}
 use Rattle.sql_tokens.specs.declared.splitter.place.Place.{Place}
-use Rattle.sql_tokens.specs.Places.{after, depth_of, held, place_after}
+use Rattle.sql_tokens.specs.Places.{after, depth_of, content_at, place_after}
 use Rattle.sql_tokens.specs.FirstText.{IsScanned, IsFirst}
 use Rattle.sql_tokens.proofs.FirstText.{scanned_more, first_here, whole_rest}
 use Rattle.sql_tokens.proofs.splitter.text.find_text.Goals as goal
@@ -13,7 +13,7 @@ scanned_in fed rest scanned count p q e before behind within depth =
 
 first_in : (fed rest : List ℕ) (scanned count : ℕ) (p q : Place) → rest ≡ drop scanned fed → IsScanned fed scanned p
     → place_after p (take count rest) ≡ Some q → count ≤ length rest → (count < length rest → after q (get_or rest count 0) ≡ None)
-    → IsFirst fed (scanned + count) (held q) (nat_lt count (length rest))
+    → IsFirst fed (scanned + count) (content_at q) (nat_lt count (length rest))
 first_in fed rest scanned count p q e before behind within cut =
     rw e (first_here fed scanned count p q before (rw e at behind) (nat_lt count (length (drop scanned fed))) refl (rw e at within) (rw e at cut))
 
