@@ -1,4 +1,4 @@
-use Rattle.std.proofs.Common.{◌≡◌, ℕ, zero, suc, ◌+◌, ◌-◌, ◌<◌, ◌≤◌, ◌==◌, ◌&&◌, cond, Bool, true, false, List, [], ◌∷◌, ◌++◌, length, get_or, take, drop, take_all, encode_utf8, append_assoc, Option, Some, None, option_to_list, Result, Ok, Err, refl, sym, ap, ap₂, ◌∙◌, subst, arith}
+use Rattle.std.proofs.Common.{◌≡◌, ℕ, suc, ◌+◌, ◌-◌, ◌<◌, ◌≤◌, ◌==◌, ◌&&◌, cond, Bool, true, false, List, [], ◌∷◌, ◌++◌, length, get_or, take, drop, take_all, encode_utf8, append_assoc, Option, Some, None, option_to_list, Ok, Err, refl, sym, ap, ap₂, ◌∙◌, subst, arith}
 use Rattle.q_base.specs.declared.errors.SqlError.{SqlError}
 use Rattle.q_base.specs.declared.errors.Stop.{Stop}
 use Rattle.q_base.specs.declared.errors.Stop.TheVariants.{Sql, NoMemory}

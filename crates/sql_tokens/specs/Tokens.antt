@@ -167,7 +167,7 @@ param_at cs =
     if length (run_of Digit cs) == 0 then Err syntax_error
     else Ok (token.Param (encode_utf8_all (run_of Digit cs)), after_run Digit cs)
 
--- after its `\\` a backslash command has letters, or none
+-- after its `\` a backslash command has letters, or none
 unfoldable pub backslash_at : List ℕ → Outcome (Token × List ℕ)
 backslash_at cs = Ok (token.Backslash (encode_utf8_all (run_of Letter cs)), after_run Letter cs)
 
@@ -201,7 +201,7 @@ is_start Start = true
 is_start Later = false
 is_start BackslashLine = false
 
--- the first character tells the kind of the token: `\\`, `'`, `"`, `$`, a word's, a digit, or else a sign's
+-- the first character tells the kind of the token: `\`, `'`, `"`, `$`, a word's, a digit, or else a sign's
 unfoldable pub token_at : Place → List ℕ → Outcome (Token × List ℕ)
 token_at place [] = Err syntax_error
 token_at place (c ∷ cs) =
