@@ -2,3 +2,4 @@ pub mod Agreement
 pub mod FirstText
 pub mod Taking
 pub mod TokensLemmas
+pub mod TokensWhole

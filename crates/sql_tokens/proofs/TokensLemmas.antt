@@ -1,11 +1,11 @@
-use Rattle.std.proofs.Common.{◌≡◌, ℕ, zero, suc, ◌+◌, ◌-◌, ◌<◌, ◌≤◌, ◌==◌, ◌&&◌, cond, Bool, true, false, List, [], ◌∷◌, ◌++◌, length, get_or, take, drop, take_all, encode_utf8, append_assoc, Option, Some, None, option_to_list, Result, Ok, Err, refl, sym, ap, ap₂, ◌∙◌, subst, arith}
+use Rattle.std.proofs.Common.{◌≡◌, ℕ, suc, ◌+◌, ◌-◌, ◌<◌, ◌≤◌, ◌==◌, ◌&&◌, cond, Bool, true, false, List, [], ◌∷◌, ◌++◌, length, get_or, take, drop, take_all, encode_utf8, append_assoc, Option, Some, None, option_to_list, Ok, Err, refl, sym, ap, ap₂, ◌∙◌, subst, arith}
 use Rattle.q_base.specs.declared.errors.SqlError.{SqlError}
 use Rattle.q_base.specs.declared.errors.Stop.{Stop}
 use Rattle.q_base.specs.declared.errors.Stop.TheVariants.{Sql, NoMemory}
 use Rattle.q_base.specs.Stops.{StopsBy}
 use Rattle.sql_tokens.specs.declared.lexer.Place.{Place}
 use Rattle.sql_tokens.specs.declared.token.Token.{Token}
-use Rattle.sql_tokens.specs.Tokens.{Outcome, ◌>>=◌, syntax_error, after_block, block_turn, after_character, content_at, text_before, piece_at, tokens_from, tokens_before, behind_piece}
+use Rattle.sql_tokens.specs.Tokens.{Outcome, ◌>>=◌, syntax_error, after_block, block_turn, after_character, content_at, text_before, piece_at, piece_then, tokens_from, tokens_before, behind_piece}
 
 -- ---- block comments
 
@@ -82,26 +82,23 @@ tokens_before-tokens_before : (r : Outcome (List Token)) (first second : List To
 tokens_before-tokens_before (Ok more) first second = ap (λ (ts : List Token). Ok ts) (sym (append_assoc first second more))
 tokens_before-tokens_before (Err e) first second = refl
 
--- what follows a piece
-abbrev tokens_then : ℕ → Place → Option Token × List ℕ → Outcome (List Token)
-tokens_then n place piece = tokens_from n (behind_piece place piece.0) piece.1 >>= tokens_before (option_to_list piece.0)
-
-tokens_first : (n m : ℕ) (place : Place) (cs : List ℕ) → suc m ≡ n → 0 < length cs → tokens_from n place cs ≡ piece_at place cs >>= tokens_then m place
+-- the first piece and the others
+pub tokens_first : (n m : ℕ) (place : Place) (cs : List ℕ) → suc m ≡ n → 0 < length cs → tokens_from n place cs ≡ piece_at place cs >>= piece_then (tokens_from m) place
 unfolding tokens_from
 tokens_first n m place [] turns some = absurd (omega arith)
-tokens_first n m place (c ∷ cs) turns some = subst (λ (k : ℕ). tokens_from k place (c ∷ cs) ≡ piece_at place (c ∷ cs) >>= tokens_then m place) turns refl
+tokens_first n m place (c ∷ cs) turns some = subst (λ (k : ℕ). tokens_from k place (c ∷ cs) ≡ piece_at place (c ∷ cs) >>= piece_then (tokens_from m) place) turns refl
 
 -- one turn over a text: its first piece, and what follows that
 pub tokens_turn : (n m : ℕ) (place next : Place) (cs rest : List ℕ) (found more : List Token) (piece : Option Token) → suc m ≡ n → 0 < length cs → piece_at place cs ≡ Ok (piece, rest) → next ≡ behind_piece place piece → more ≡ found ++ option_to_list piece → tokens_from n place cs >>= tokens_before found ≡ tokens_from m next rest >>= tokens_before more
 tokens_turn n m place next cs rest found more piece turns some h next_is more_is =
-    ap (λ (r : Outcome (List Token)). r >>= tokens_before found) (tokens_first n m place cs turns some ∙ ap (λ (r : Outcome (Option Token × List ℕ)). r >>= tokens_then m place) h)
+    ap (λ (r : Outcome (List Token)). r >>= tokens_before found) (tokens_first n m place cs turns some ∙ ap (λ (r : Outcome (Option Token × List ℕ)). r >>= piece_then (tokens_from m) place) h)
     ∙ tokens_before-tokens_before (tokens_from m (behind_piece place piece) rest) found (option_to_list piece)
     ∙ ap₂ (λ (p : Place) (ts : List Token). tokens_from m p rest >>= tokens_before ts) (sym next_is) (sym more_is)
 
 -- a piece that is refused
 tokens_refused : (n m : ℕ) (place : Place) (cs : List ℕ) (found : List Token) (e : SqlError) → suc m ≡ n → 0 < length cs → piece_at place cs ≡ Err e → tokens_from n place cs >>= tokens_before found ≡ Err e
 tokens_refused n m place cs found e turns some h =
-    ap (λ (r : Outcome (List Token)). r >>= tokens_before found) (tokens_first n m place cs turns some ∙ ap (λ (r : Outcome (Option Token × List ℕ)). r >>= tokens_then m place) h)
+    ap (λ (r : Outcome (List Token)). r >>= tokens_before found) (tokens_first n m place cs turns some ∙ ap (λ (r : Outcome (Option Token × List ℕ)). r >>= piece_then (tokens_from m) place) h)
 
 -- so is the text
 pub tokens_stopped : (n m : ℕ) (place : Place) (cs : List ℕ) (found : List Token) (whole : Outcome (List Token)) (stop : Stop) → suc m ≡ n → 0 < length cs → tokens_from n place cs >>= tokens_before found ≡ whole → StopsBy (λ e. piece_at place cs ≡ Err e) stop → StopsBy (λ e. whole ≡ Err e) stop

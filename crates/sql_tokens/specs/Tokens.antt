@@ -167,7 +167,7 @@ param_at cs =
     if length (run_of Digit cs) == 0 then Err syntax_error
     else Ok (token.Param (encode_utf8_all (run_of Digit cs)), after_run Digit cs)
 
--- after its `\\` a backslash command has letters, or none
+-- after its `\` a backslash command has letters, or none
 unfoldable pub backslash_at : List ℕ → Outcome (Token × List ℕ)
 backslash_at cs = Ok (token.Backslash (encode_utf8_all (run_of Letter cs)), after_run Letter cs)
 
@@ -201,7 +201,7 @@ is_start Start = true
 is_start Later = false
 is_start BackslashLine = false
 
--- the first character tells the kind of the token: `\\`, `'`, `"`, `$`, a word's, a digit, or else a sign's
+-- the first character tells the kind of the token: `\`, `'`, `"`, `$`, a word's, a digit, or else a sign's
 unfoldable pub token_at : Place → List ℕ → Outcome (Token × List ℕ)
 token_at place [] = Err syntax_error
 token_at place (c ∷ cs) =
@@ -239,17 +239,27 @@ behind_piece place (Some found) = behind place found
 abbrev pub tokens_before : List Token → List Token → Outcome (List Token)
 tokens_before found more = Ok (found ++ more)
 
+-- the token of a piece, if it has one, and then the others of the characters after it
+abbrev pub piece_then : (Place → List ℕ → Outcome (List Token)) → Place → Option Token × List ℕ → Outcome (List Token)
+piece_then others place piece = others (behind_piece place piece.0) piece.1 >>= tokens_before (option_to_list piece.0)
+
 -- the tokens of the first pieces, so many of them
 unfoldable pub tokens_from : ℕ → Place → List ℕ → Outcome (List Token)
 tokens_from zero place cs = Ok []
 tokens_from (suc pieces) place [] = Ok []
-tokens_from (suc pieces) place (c ∷ cs) = do
-  piece ← piece_at place (c ∷ cs)
-  tokens_from pieces (behind_piece place piece.0) piece.1 >>= tokens_before (option_to_list piece.0)
+tokens_from (suc pieces) place (c ∷ cs) = piece_at place (c ∷ cs) >>= piece_then (tokens_from pieces) place
 
--- the tokens of a text, or its first refusal; a piece has a character at least
+-- the tokens of all pieces: there are at most as many as characters
+abbrev pub all_tokens : Place → List ℕ → Outcome (List Token)
+all_tokens place cs = tokens_from (length cs) place cs
+
+-- the token of the first piece, and then those of all others
+abbrev pub first_and_others : Place → List ℕ → Outcome (List Token)
+first_and_others place cs = piece_at place cs >>= piece_then all_tokens place
+
+-- the tokens of a text, or its first refusal
 unfoldable pub tokens_of : List ℕ → Outcome (List Token)
-tokens_of text = tokens_from (length (chars text)) Start (chars text)
+tokens_of text = all_tokens Start (chars text)
 
 -- ---- what a function that reads ensures: the outcome, unless memory was refused
 

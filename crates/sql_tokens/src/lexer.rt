@@ -18,7 +18,7 @@ use comments::{after_block, after_line};
 use pieces::read_token;
 
 /// Where in a command's text a token or a comment may stand.
-#[derive(Clone, Copy, Debug, PartialEq, Eq)]
+#[derive(Clone, Copy)]
 enum Place {
     /// Before the first token: the only place of a `\`.
     Start,

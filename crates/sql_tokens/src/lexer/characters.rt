@@ -6,7 +6,7 @@ use q_base::{NoMemory, Str};
 use std::alloc::Global;
 
 /// A set of characters with which a token or a comment goes on.
-#[derive(Clone, Copy, Debug, PartialEq, Eq)]
+#[derive(Clone, Copy)]
 pub(crate) enum Class {
     /// ASCII digits.
     Digit,

@@ -1,7 +1,6 @@
 use crate::{Sign, Token, tokens};
 use q_base::{NoMemory, Stop};
 use std::alloc::{AllocError, Global};
-use std::process::Abort;
 use std::test::Fail;
 
 /// A text, and its tokens or its refusal as `shown` writes them.
@@ -138,71 +137,33 @@ fn gives_the_tokens(rt: HostRuntime) -> Result<(), Fail> {
     Ok(())
 }
 
-/// `head`, then `middle` so many times, then `tail`.
-fn repeated(
-    alloc: Global,
-    head: &str,
-    middle: &str,
-    count: usize,
-    tail: &str,
-) -> Result<String, AllocError> {
+/// A text as `head`, `middle` so many times and `tail`, and what `shown` writes of it as another head
+/// and another middle so many times.
+const LONG_CASES: [(&str, &str, usize, &str, &str, &str); 7] = [
+    ("", "A", 63, "", "word:", "a"),
+    ("", "A", 64, " 'b", "42622 ", "a"),
+    ("x", "é", 31, "", "word:x", "é"),
+    ("xy", "é", 31, "", "42622 xy", "é"),
+    ("\"", "\"\"", 63, "\"", "quoted:", "\""),
+    ("\"", "A", 64, "\"", "42622 ", "A"),
+    ("'", "A", 64, "'", "text:", "A"),
+];
+
+fn repeated(alloc: Global, head: &str, middle: &str, count: usize) -> Result<String, AllocError> {
     let mut out = String::from_str(alloc, head)?;
     for _ in 0..count {
         out.push_str(middle)?;
     }
-    out.push_str(tail)?;
     Ok(out)
-}
-
-fn check(rt: &impl Abort, alloc: Global, text: &str, wanted: &str) -> Result<(), NoMemory> {
-    assert_eq!(rt; shown(alloc, text)?.as_str(), wanted);
-    Ok(())
 }
 
 #[test]
 fn limits_identifiers(rt: HostRuntime) -> Result<(), Fail> {
-    let alloc = rt.alloc();
-    check(
-        &rt,
-        alloc,
-        repeated(alloc, "", "A", 63, "")?.as_str(),
-        repeated(alloc, "word:", "a", 63, "")?.as_str(),
-    )?;
-    check(
-        &rt,
-        alloc,
-        repeated(alloc, "", "A", 64, " 'b")?.as_str(),
-        repeated(alloc, "42622 ", "a", 64, "")?.as_str(),
-    )?;
-    check(
-        &rt,
-        alloc,
-        repeated(alloc, "x", "é", 31, "")?.as_str(),
-        repeated(alloc, "word:x", "é", 31, "")?.as_str(),
-    )?;
-    check(
-        &rt,
-        alloc,
-        repeated(alloc, "xy", "é", 31, "")?.as_str(),
-        repeated(alloc, "42622 xy", "é", 31, "")?.as_str(),
-    )?;
-    check(
-        &rt,
-        alloc,
-        repeated(alloc, "\"", "\"\"", 63, "\"")?.as_str(),
-        repeated(alloc, "quoted:", "\"", 63, "")?.as_str(),
-    )?;
-    check(
-        &rt,
-        alloc,
-        repeated(alloc, "\"", "A", 64, "\"")?.as_str(),
-        repeated(alloc, "42622 ", "A", 64, "")?.as_str(),
-    )?;
-    check(
-        &rt,
-        alloc,
-        repeated(alloc, "'", "A", 64, "'")?.as_str(),
-        repeated(alloc, "text:", "A", 64, "")?.as_str(),
-    )?;
+    for (head, middle, count, tail, wanted_head, wanted_middle) in LONG_CASES {
+        let mut text = repeated(rt.alloc(), head, middle, count)?;
+        text.push_str(tail)?;
+        let wanted = repeated(rt.alloc(), wanted_head, wanted_middle, count)?;
+        assert_eq!(rt; shown(rt.alloc(), text.as_str())?.as_str(), wanted.as_str());
+    }
     Ok(())
 }

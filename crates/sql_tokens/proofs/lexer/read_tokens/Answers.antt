@@ -1,4 +1,4 @@
-use Rattle.std.proofs.Common.{◌<◌, ◌-◌, ◌+◌, length, sym, ◌∙◌, arith, rules}
+use Rattle.std.proofs.Common.{◌<◌, ◌-◌, ◌+◌, length, sym, ◌∙◌, arith}
 use Rattle.std.proofs.lemmas.Result.{err_from_is_err_and}
 use Rattle.sql_tokens.proofs.TokensLemmas.{tokens_turn, tokens_stopped}
 use Rattle.sql_tokens.proofs.lexer.read_tokens.Goals as goal

@@ -1,4 +1,4 @@
-use Rattle.std.proofs.Common.{sym, ◌∙◌, arith, rules}
+use Rattle.std.proofs.Common.{sym, ◌∙◌, arith}
 use Rattle.sql_tokens.proofs.TokensLemmas.{content_turn}
 use Rattle.sql_tokens.proofs.lexer.pieces.read_content.Goals as goal
 
