@@ -74,3 +74,11 @@ pub record SameTake (old new : Input) : Type 0 where
   pub left : after_take new ≡ after_take old
   pub rest : scan_of new ≡ scan_of old
   pub further : (more : List ℕ) (over : Bool) → scan_with new more over ≡ scan_with old more over
+
+-- what a take says of the counts of bytes
+abbrev pub Bounds : Took → Input → Input → Type 0
+Bounds (took.Command command) old new = (length command ≤ 2 ^ 20) × (old.taken + 1 ≤ new.taken) × (new.taken ≤ 2 ^ 30)
+Bounds took.NotYet old new = (old.over ≡ false) × (new.taken + length new.fed ≤ 2 ^ 30)
+Bounds took.Over old new = old.over ≡ true
+Bounds took.NotText old new = Unit {0}
+Bounds took.TooLong old new = Unit {0}

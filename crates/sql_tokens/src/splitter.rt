@@ -4,6 +4,11 @@ ghost use Rattle.std.specs.Prelude.{◌≡◌, ◌+◌, ◌^◌, ◌<◌, ◌≤
 ghost use Rattle.sql_tokens.specs.Places.{content_at};
 ghost use Rattle.sql_tokens.specs.FirstText.{IsFirst};
 ghost use Rattle.sql_tokens.specs.Splitting.{Input, scan_of, taken_from, IsCommand, without_front, Takes, SameTake};
+ghost use Rattle.std.specs.Prelude.{◌≡◌, ◌+◌, ◌^◌, ◌<◌, ◌≤◌, ◌++◌, [], true, false, length, IfOk, OnOk, OnErr, IfSome, IfNone, OnSome, MatchOption};
+ghost use Rattle.sql_tokens.specs.Places.{held};
+ghost use Rattle.sql_tokens.specs.Script.{is_blanks};
+ghost use Rattle.sql_tokens.specs.FirstText.{IsFirst};
+ghost use Rattle.sql_tokens.specs.Splitting.{Input, without_front, Takes, SameTake, Bounds};
 
 mod place;
 #[cfg(test)]
@@ -92,6 +97,8 @@ impl Splitter {
         ensures err { OnErr result (SameTake self.old self.new) }
         // Memory is taken for a command alone.
         ensures memory { OnErr result (IsCommand (taken_from (scan_of self.old))) }
+        ensures bounds { IfOk result (λ took. Bounds took self.old self.new) }
+        ensures total { self.new.taken + length self.new.fed ≡ self.old.taken + length self.old.fed }
     {
         loop {
             if let Some(took) = self.pass_text()? {
@@ -107,6 +114,9 @@ impl Splitter {
         ensures less { IfOk result (λ o. IfNone o (length self.new.fed < length self.old.fed)) }
         ensures err { OnErr result (self.new ≡ self.old) }
         ensures memory { OnErr result (IsCommand (taken_from (scan_of self.old))) }
+        ensures bounds { IfOk result (λ o. IfSome o (λ took. Bounds took self.old self.new)) }
+        ensures total { self.new.taken + length self.new.fed ≡ self.old.taken + length self.old.fed }
+        ensures grows { self.old.taken ≤ self.new.taken }
     {
         let found = self.first_text();
         if exceeds(self.taken, &found) {
@@ -138,6 +148,8 @@ impl Splitter {
     fn first_text(&mut self) -> Found
         ensures same { self.new ≡ self.old }
         ensures first { IsFirst self.old.fed result.length (content_at result.place) result.cut }
+        ensures first { IsFirst self.old.fed result.length (held result.place) result.cut }
+        ensures blank { result.length ≡ 0 → is_blanks (held result.place) ≡ true }
     {
         let found = find_text(&self.buffer[self.begin..], self.scanned, self.place);
         self.scanned = found.length;
