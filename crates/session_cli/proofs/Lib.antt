@@ -1,0 +1,4 @@
+pub mod Course
+pub mod Joins
+pub mod Pieces
+pub mod Runs

@@ -1,0 +1,44 @@
+use Rattle.std.specs.Prelude.{◌≡◌, ◌⊎◌, ℕ, List, [], ◌∷◌, Result, Ok, Err}
+use Rattle.q_base.specs.declared.code.Code.TheVariants.{SyntaxError}
+use Rattle.q_base.specs.declared.errors.SqlError.{SqlError}
+use Rattle.q_base.specs.declared.settings.Mode.{Mode}
+use Rattle.sql_tokens.specs.declared.token.Token.{Token}
+use Rattle.sql_tokens.specs.Tokens.{tokens_of}
+use Rattle.session_core.specs.declared.grammar.Command.{Command}
+use Rattle.session_core.specs.declared.grammar.Command.TheVariants.{Prepare, Execute}
+use Rattle.session_core.specs.declared.session.Done.{Done}
+use Rattle.session_core.specs.Grammar.{Spells}
+use Rattle.session_core.specs.State.{State, empty_state, Refuses}
+use Rattle.session_core.specs.Prepared.{Prepares, Executes}
+
+-- the command leads from state to state2 with that end and output; one case a command
+abbrev pub Performs : State → Command → Done → List ℕ → State → Type 0
+Performs state (Prepare name digits) = Prepares state name digits
+Performs state (Execute name) = Executes state name
+
+-- the tokens lead from state to state2: by the command that they spell, or refused where they spell none
+abbrev pub Follows : State → List Token → Done → List ℕ → State → Type 0
+Follows state tokens end output state2 =
+    ((command : Command) × Spells tokens command × Performs state command end output state2)
+    ⊎ (((command : Command) → Spells tokens command → ⊥) × Refuses state (record { code = SyntaxError; args = [] }) end output state2)
+
+-- the same of a text whose tokens are found, or that is refused
+abbrev pub Reads : State → Result (List Token) SqlError → Done → List ℕ → State → Type 0
+Reads state (Ok tokens) = Follows state tokens
+Reads state (Err error) = Refuses state error
+
+-- one step: from state the text of a command gives that end and output, and leads to state2
+abbrev pub Step : State → List ℕ → Done → List ℕ → State → Type 0
+Step state text = Reads state (tokens_of text)
+
+-- steps lead from state through the texts, with those ends and outputs, to state2
+abbrev pub Leads : State → List (List ℕ) → List (Done × List ℕ) → State → Type 0
+Leads state [] [] state2 = state2 ≡ state
+Leads state (text ∷ texts) (answer ∷ answers) state2 =
+    (middle : State) × Step state text answer.0 answer.1 middle × Leads middle texts answers state2
+Leads state [] (answer ∷ answers) state2 = ⊥
+Leads state (text ∷ texts) [] state2 = ⊥
+
+-- a run of the machine from its empty state: the texts with their ends and outputs
+abbrev pub Runs : Mode → List (List ℕ) → List (Done × List ℕ) → Type 0
+Runs mode texts answers = (state : State) × Leads (empty_state mode) texts answers state
