@@ -1,2 +1,4 @@
 pub mod Levels
 pub mod Load
+pub mod Reading
+pub mod Names
