@@ -1,4 +1,6 @@
 pub mod Levels
+pub mod Literals
 pub mod Load
-pub mod Reading
 pub mod Names
+pub mod Operators
+pub mod Reading

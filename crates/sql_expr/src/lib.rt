@@ -3,8 +3,12 @@
 
 mod cursor;
 mod levels;
+mod literals;
 mod names;
+mod nodes;
+mod operators;
 
 pub use cursor::Cursor;
 pub use levels::load;
+pub use literals::{eat_digits, eat_literal, eat_param, numeral};
 pub use names::{eat_name, is_reserved, name};
