@@ -1,3 +1,4 @@
+pub mod Expressions
 pub mod Levels
 pub mod Literals
 pub mod Load

@@ -1,5 +1,5 @@
 -- Reading functions: each gives what it reads at the front of the tokens, and the tokens behind that.
-use Rattle.std.specs.Prelude.{◌≡◌, ℕ, zero, suc, Bool, true, false, List, [], ◌∷◌, ◌++◌, length, drop, Option, Some, None, Result, Ok, Err, if◌then◌else◌}
+use Rattle.std.specs.Prelude.{◌≡◌, ℕ, zero, suc, Bool, false, List, [], ◌∷◌, ◌++◌, length, drop, Option, Some, None, Result, Ok, Err, if◌then◌else◌}
 use Rattle.std.specs.Str.{bytes_eq}
 use denote.Enum.Bare.{sameb}
 use Rattle.q_base.specs.declared.code.Code.TheVariants.{SyntaxError}
@@ -100,6 +100,15 @@ separated_from separator item (suc n) found = do
   x ← item
   more ← separator
   if more then separated_from separator item n (found ++ x ∷ []) else pure (found ++ x ∷ [])
+
+-- one or more, with a separator between two
+abbrev pub separated : {A : Type 0} → Parser Bool → Parser A → Parser (List A)
+separated separator item = λ ts. separated_from separator item (length ts) [] ts
+
+-- goes on with what was found, and else keeps what there is
+abbrev pub goes_on : {A B : Type 0} → Option A → (A → Parser B) → B → Parser B
+goes_on (Some a) f b = f a
+goes_on None f b = pure b
 
 -- ---- what a function that reads ensures
 

@@ -2,6 +2,7 @@
 #![tactic(auto)]
 
 mod cursor;
+mod grammar;
 mod levels;
 mod literals;
 mod names;
@@ -9,6 +10,7 @@ mod nodes;
 mod operators;
 
 pub use cursor::Cursor;
+pub use grammar::expression;
 pub use levels::load;
 pub use literals::{eat_digits, eat_literal, eat_param, numeral};
 pub use names::{eat_name, is_reserved, name};
