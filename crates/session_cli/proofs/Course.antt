@@ -15,10 +15,15 @@ use Rattle.session_cli.specs.Headline.{Ran, IsWhole, IsFront, HasRead, IsNeeded,
 use Rattle.session_cli.specs.Turns.{CanCome, ahead, Passes, Holds, Begins, Advances, EndsWhole, Ends, TurnsTo, start, Progress, Feeds, ReadsPiece}
 use Rattle.session_cli.proofs.Joins.{ran_join, refusal_join, cut_join}
 
--- what holds of the bytes that are told
-pub told : {P : List ℕ → Type 0} (o : Option (List ℕ)) → ((bytes : List ℕ) → o ≡ Some bytes → P bytes) → IfSome o P
+-- what holds of the value, if there is one
+pub told : {T : Type 0} {P : T → Type 0} (o : Option T) → ((x : T) → o ≡ Some x → P x) → IfSome o P
 told None h = tt
-told (Some bytes) h = h bytes refl
+told (Some x) h = h x refl
+
+-- no command was run
+pub nothing_run : (options : Options) (script : List ℕ) (left a : Option (List ℕ)) → Appends a a [] → Outcome status.NoMemory options script left a a
+nothing_run options script left a nothing =
+    ([], empty_state options.mode, ((scan script true).commands, refl), record { answers = []; leads = refl; fine = λ h k d below. absurd (omega arith); written = nothing })
 
 -- nothing is read yet
 pub progress_none : (options : Options) (script : List ℕ) (left : Option (List ℕ)) (a : Option (List ℕ)) → left ≡ Some script → Appends a a [] → Progress options script left (start [] false) (empty_state options.mode) a a

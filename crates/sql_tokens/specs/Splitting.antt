@@ -1,4 +1,4 @@
-use Rattle.std.specs.Prelude.{ℕ, ◌+◌, ◌≡◌, Bool, false, not, ◌||◌, if◌then◌else◌, List, [], ◌∷◌, ◌++◌, drop}
+use Rattle.std.specs.Prelude.{ℕ, ◌+◌, ◌≡◌, Bool, false, not, ◌||◌, if◌then◌else◌, List, [], ◌∷◌, ◌++◌, drop, ◌≤◌, ◌^◌, length, true}
 use Rattle.std.specs.Str.{is_utf8}
 use Rattle.sql_tokens.specs.declared.splitter.took.Took.{Took}
 use Rattle.sql_tokens.specs.declared.splitter.took.Took.TheVariants as took

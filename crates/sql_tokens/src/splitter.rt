@@ -2,13 +2,9 @@
 
 ghost use Rattle.std.specs.Prelude.{◌≡◌, ◌+◌, ◌^◌, ◌<◌, ◌≤◌, ◌++◌, [], true, false, length, IfOk, OnOk, OnErr, IfSome, IfNone};
 ghost use Rattle.sql_tokens.specs.Places.{content_at};
-ghost use Rattle.sql_tokens.specs.FirstText.{IsFirst};
-ghost use Rattle.sql_tokens.specs.Splitting.{Input, scan_of, taken_from, IsCommand, without_front, Takes, SameTake};
-ghost use Rattle.std.specs.Prelude.{◌≡◌, ◌+◌, ◌^◌, ◌<◌, ◌≤◌, ◌++◌, [], true, false, length, IfOk, OnOk, OnErr, IfSome, IfNone, OnSome, MatchOption};
-ghost use Rattle.sql_tokens.specs.Places.{held};
 ghost use Rattle.sql_tokens.specs.Script.{is_blanks};
 ghost use Rattle.sql_tokens.specs.FirstText.{IsFirst};
-ghost use Rattle.sql_tokens.specs.Splitting.{Input, without_front, Takes, SameTake, Bounds};
+ghost use Rattle.sql_tokens.specs.Splitting.{Input, scan_of, taken_from, IsCommand, without_front, Takes, SameTake, Bounds};
 
 mod place;
 #[cfg(test)]
@@ -148,8 +144,7 @@ impl Splitter {
     fn first_text(&mut self) -> Found
         ensures same { self.new ≡ self.old }
         ensures first { IsFirst self.old.fed result.length (content_at result.place) result.cut }
-        ensures first { IsFirst self.old.fed result.length (held result.place) result.cut }
-        ensures blank { result.length ≡ 0 → is_blanks (held result.place) ≡ true }
+        ensures blank { result.length ≡ 0 → is_blanks (content_at result.place) ≡ true }
     {
         let found = find_text(&self.buffer[self.begin..], self.scanned, self.place);
         self.scanned = found.length;
