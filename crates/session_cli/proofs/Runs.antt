@@ -149,7 +149,7 @@ module _ {stop : Bool} {i m : Input} {s t : State} {a b : Option (List ℕ)} (ad
     advances.texts,
     t,
     (λ more rest can.
-        whole_after advances.texts NotText _ _ (advances.passes.1 more rest can) (takes_step took.NotText m n takes more rest (can_come i m advances.texts advances.passes more rest can))),
+        whole_after advances.texts NotText _ _ (advances.passes.1 more rest can) ((takes_step took.NotText m n takes more rest (can_come i m advances.texts advances.passes more rest can)).0)),
     advances.ran,
   )
 
@@ -158,7 +158,7 @@ module _ {stop : Bool} {i m : Input} {s t : State} {a b : Option (List ℕ)} (ad
     advances.texts,
     t,
     (λ more rest can.
-        whole_after advances.texts TooLong _ _ (advances.passes.1 more rest can) (takes_step took.TooLong m n takes more rest (can_come i m advances.texts advances.passes more rest can))),
+        whole_after advances.texts TooLong _ _ (advances.passes.1 more rest can) ((takes_step took.TooLong m n takes more rest (can_come i m advances.texts advances.passes more rest can)).0)),
     advances.ran,
   )
 
