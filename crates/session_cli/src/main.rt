@@ -30,3 +30,6 @@ fn run(rt: &HostRuntime) -> Status {
     let mut sink = WriteSink::new(rt.stdout());
     start(rt.alloc(), words.as_slice(), &mut source, &mut sink)
 }
+
+#[cfg(test)]
+mod tests;

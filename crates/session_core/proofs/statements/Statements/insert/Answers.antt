@@ -12,6 +12,6 @@ returns c =
     let map = c.self.inside.by_name in
     let key = c.into_string.result in
     let none : get string_eq map key ≡ None =
-        sym (kept-lookup map.entries (string_bytes key)) ∙ (ap (kept (statements_of map.entries)) c.into_string.ensures ∙ (ap (λ s. kept s c.args.name) c.self.view_is ∙ c.requires)) in
+    sym (kept-lookup map.entries (string_bytes key)) ∙ (ap (kept (statements_of map.entries)) c.into_string.ensures ∙ (ap (λ s. kept s c.args.name) c.self.view_is ∙ c.requires)) in
     ap statements_of (c.in_ok-insert.ensures.entries ∙ insert_entry-new string_eq map key c.args.number none)
     ∙ (statements_of-push map.entries (key, c.args.number) ∙ (λ i. c.self.view_is i ++ record { name = c.into_string.ensures i; number = c.args.number } ∷ []))
