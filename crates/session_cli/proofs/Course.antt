@@ -1,10 +1,9 @@
 -- The course of a whole run: how the turns and the reads lead to its outcome.
-use Rattle.std.proofs.Common.{◌≡◌, ◌+◌, ◌<◌, ◌≤◌, ℕ, Bool, true, false, Option, None, Some, List, [], ◌∷◌, ◌++◌, length, IfSome, refl, sym, ap, subst, ◌∙◌, append_assoc, true≢false, arith, inl, inr, length-append}
+use Rattle.std.proofs.Common.{◌≡◌, ◌≤◌, ℕ, Bool, true, false, Option, None, Some, List, [], ◌∷◌, ◌++◌, length, IfSome, refl, sym, ap, subst, ◌∙◌, append_assoc, true≢false, arith, inl, inr, length-append}
 use Rattle.std.proofs.lemmas.List.{append-nil}
-use Rattle.std.proofs.lemmas.Option.{none-some, same_Some}
+use Rattle.std.proofs.lemmas.Option.{same_Some}
 use Rattle.std.specs.Io.KnownBytes.{Appends, Keeps, Consumes, IsAtEnd}
-use Rattle.q_base.specs.declared.settings.Mode.{Mode}
-use Rattle.sql_tokens.specs.Script.{Scan, Verdict, Over, NotYet, NotText, TooLong, scan, scan_from}
+use Rattle.sql_tokens.specs.Script.{Verdict, NotYet, scan, scan_from}
 use Rattle.sql_tokens.specs.Splitting.{Input, scan_with}
 use Rattle.session_core.specs.State.{State, empty_state}
 use Rattle.session_cli.specs.declared.options.Options.{Options}
@@ -12,7 +11,7 @@ use Rattle.session_cli.specs.declared.status.Status.{Status}
 use Rattle.session_cli.specs.declared.status.Status.TheVariants as status
 use Rattle.session_cli.specs.declared.running.Turn.TheVariants as turn
 use Rattle.session_cli.specs.Headline.{Ran, IsWhole, IsFront, HasRead, IsNeeded, RanWhole, Outcome}
-use Rattle.session_cli.specs.Turns.{CanCome, ahead, Passes, Holds, Begins, Advances, EndsWhole, Ends, TurnsTo, start, Progress, Feeds, ReadsPiece}
+use Rattle.session_cli.specs.Turns.{CanCome, ahead, Passes, Holds, Begins, EndsWhole, Ends, TurnsTo, start, Progress, ReadsPiece}
 use Rattle.session_cli.proofs.Joins.{ran_join, refusal_join, cut_join}
 
 -- what holds of the value, if there is one

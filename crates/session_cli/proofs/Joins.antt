@@ -1,10 +1,10 @@
 -- How runs join: of texts, and of the texts after them.
-use Rattle.std.proofs.Common.{◌≡◌, ℕ, Bool, true, Option, List, [], ◌∷◌, ◌++◌, take, refl, sym, ap, subst, ◌∙◌, append_assoc}
+use Rattle.std.proofs.Common.{◌≡◌, ℕ, Bool, true, Option, List, [], ◌∷◌, ◌++◌, take, sym, ap, subst, ◌∙◌, append_assoc}
 use Rattle.std.proofs.lemmas.Grind.{flat_map-append}
 use Rattle.std.proofs.lemmas.List.Elements.{All-append}
 use Rattle.std.specs.Io.KnownBytes.{Appends}
 use Rattle.session_core.specs.declared.session.Done.TheVariants as done
-use Rattle.session_core.specs.Machine.{Step, Leads}
+use Rattle.session_core.specs.Machine.{Leads}
 use Rattle.session_core.specs.State.{State}
 use Rattle.session_cli.specs.Headline.{Answer, joined, NoneRefused, Ran, RanToRefusal, RanToCut}
 use Rattle.session_cli.proofs.Pieces.{Appends-then}

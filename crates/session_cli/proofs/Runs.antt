@@ -1,14 +1,13 @@
 -- How runs of commands join.
-use Rattle.std.proofs.Common.{◌≡◌, ℕ, Bool, true, false, Option, None, Some, List, [], ◌∷◌, ◌++◌, take, All, zero, suc, refl, sym, ap, subst, ◌∙◌, append_assoc, true≢false, arith}
+use Rattle.std.proofs.Common.{◌≡◌, ℕ, Bool, true, false, Option, List, [], ◌∷◌, ◌++◌, take, refl, sym, ap, subst, ◌∙◌, append_assoc, true≢false, arith}
 use Rattle.std.proofs.lemmas.Grind.{flat_map-append}
 use Rattle.std.proofs.lemmas.List.{append-nil}
 use Rattle.std.proofs.lemmas.List.Elements.{All-push}
-use Rattle.std.specs.List.{flat_map}
-use Rattle.std.specs.Io.KnownBytes.{Appends, Keeps}
+use Rattle.std.specs.Io.KnownBytes.{Appends}
 use Rattle.sql_tokens.specs.declared.splitter.took.Took.{Took}
 use Rattle.sql_tokens.specs.declared.splitter.took.Took.TheVariants as took
-use Rattle.sql_tokens.specs.Script.{Scan, Verdict, Over, NotYet, NotText, TooLong, ends, scan_from}
-use Rattle.sql_tokens.specs.Splitting.{Input, scan_of, scan_with, taken_from, first_of, verdict_of, Precedes, Takes, after_take}
+use Rattle.sql_tokens.specs.Script.{Scan, Verdict, Over, NotYet, NotText, TooLong, scan_from}
+use Rattle.sql_tokens.specs.Splitting.{Input, scan_of, scan_with, first_of, verdict_of, Precedes, Takes}
 use Rattle.session_core.specs.declared.session.Done.{Done}
 use Rattle.session_core.specs.declared.session.Done.TheVariants as done
 use Rattle.session_core.specs.Machine.{Step, Leads}
@@ -16,8 +15,8 @@ use Rattle.session_core.specs.State.{State}
 use Rattle.session_cli.specs.declared.output.Halt.TheVariants as halt
 use Rattle.session_cli.specs.declared.status.Status.TheVariants as status
 use Rattle.session_cli.specs.declared.running.Turn.TheVariants as turn
-use Rattle.session_cli.specs.Headline.{Answer, joined, NoneRefused, Ran, RanToRefusal, RanToCut, IsWhole}
-use Rattle.session_cli.specs.Turns.{CanCome, ahead, Passes, Holds, Begins, Advances, EndsWhole, Ends, TurnsTo, Halts}
+use Rattle.session_cli.specs.Headline.{Answer, joined, Ran, IsWhole}
+use Rattle.session_cli.specs.Turns.{CanCome, ahead, Passes, Begins, Advances, Ends, TurnsTo, Halts}
 use Rattle.session_cli.proofs.Pieces.{Appends-then, Appends-keeps, Appends-none}
 
 pub leads_more : (state middle state2 : State) (texts : List (List ℕ)) (answers : List Answer) (text : List ℕ) (answer : Answer) → Leads state texts answers middle → Step middle text answer.0 answer.1 state2 → Leads state (texts ++ text ∷ []) (answers ++ answer ∷ []) state2

@@ -1,8 +1,7 @@
 -- What a run of the program leaves: the script's commands were answered as by a run of the session machine.
-use Rattle.std.specs.Prelude.{◌≡◌, ◌⊎◌, ◌≤◌, ◌<◌, ℕ, Bool, true, false, Option, None, Some, List, [], ◌∷◌, ◌++◌, length, take, All}
+use Rattle.std.specs.Prelude.{◌≡◌, ◌⊎◌, ◌≤◌, ◌<◌, ℕ, Bool, true, false, Option, Some, List, [], ◌∷◌, ◌++◌, length, take, All}
 use Rattle.std.specs.List.{flat_map}
 use Rattle.std.specs.Io.KnownBytes.{Appends}
-use Rattle.q_base.specs.declared.settings.Mode.{Mode}
 use Rattle.sql_tokens.specs.Script.{Scan, Verdict, Over, NotYet, NotText, TooLong, scan}
 use Rattle.session_core.specs.declared.session.Done.{Done}
 use Rattle.session_core.specs.declared.session.Done.TheVariants as done

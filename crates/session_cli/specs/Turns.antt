@@ -1,5 +1,5 @@
 -- What the parts of a run do: whatever comes after the input, which commands were run of it.
-use Rattle.std.specs.Prelude.{◌≡◌, ◌⊎◌, ◌<◌, ◌≤◌, ℕ, Bool, true, false, Option, None, Some, List, [], ◌∷◌, ◌++◌, length, take}
+use Rattle.std.specs.Prelude.{◌≡◌, ◌⊎◌, ◌<◌, ◌≤◌, ℕ, Bool, true, false, Option, Some, List, [], ◌∷◌, ◌++◌, length, take}
 use Rattle.std.specs.Io.KnownBytes.{Appends, Keeps, Consumes, IsAtEnd}
 use Rattle.sql_tokens.specs.Script.{Scan, Verdict, Over, NotYet, NotText, TooLong, scan}
 use Rattle.sql_tokens.specs.Splitting.{Input, scan_with}

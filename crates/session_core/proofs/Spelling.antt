@@ -1,11 +1,10 @@
 -- What the reading functions read is spelt, and what is spelt is read.
-use Rattle.std.proofs.Common.{◌≡◌, ℕ, Bool, true, false, cond, List, [], ◌∷◌, Option, None, Some, codes, refl, sym, ap, subst, ◌∙◌}
+use Rattle.std.proofs.Common.{◌≡◌, ℕ, Bool, true, false, cond, List, [], ◌∷◌, Option, None, Some, codes, refl, ap, subst, ◌∙◌}
 use Rattle.std.proofs.lemmas.Option.{cond_some, option_and_then_some, none-some, same_Some}
 use Rattle.std.proofs.lemmas.Slice.Eq.{bytes_eq-Decides}
 use Rattle.std.specs.Str.{bytes_eq}
-use Rattle.std.specs.Option.{option_and_then, option_map}
 use Rattle.sql_tokens.specs.declared.token.Token.{Token}
-use Rattle.sql_tokens.specs.declared.token.Token.TheVariants.{Word, Quoted, Text, Number, Param, Sign, Backslash}
+use Rattle.sql_tokens.specs.declared.token.Token.TheVariants.{Word, Quoted, Number}
 use Rattle.session_core.specs.declared.grammar.Command.{Command}
 use Rattle.session_core.specs.declared.grammar.Command.TheVariants.{Prepare, Execute}
 use Rattle.session_core.specs.Grammar.{IsName, Spells, is_reserved}

@@ -1,4 +1,4 @@
-use Rattle.std.proofs.Common.{◌+◌, ◌≤◌, length, drop, arith}
+use Rattle.std.proofs.Common.{arith}
 use Rattle.session_cli.proofs.Pieces.{written_more}
 use Rattle.session_cli.proofs.output.write_all.Goals as goal
 

@@ -1,4 +1,4 @@
-use Rattle.std.proofs.Common.{◌≡◌, ℕ, List, map, IfSome}
+use Rattle.std.proofs.Common.{map, IfSome}
 use Rattle.std.specs.String.{string_bytes}
 use Rattle.session_cli.specs.declared.status.Status.TheVariants as status
 use Rattle.session_cli.specs.Headline.{Outcome}

@@ -1,6 +1,5 @@
-use Rattle.std.proofs.Common.{◌≡◌, ◌+◌, ◌≤◌, ℕ, List, [], false, length, Err, sym, ap, subst, arith}
+use Rattle.std.proofs.Common.{[], false, length, Err, sym, ap, subst, arith}
 use Rattle.std.proofs.lemmas.Option.{IfSome_then}
-use Rattle.session_core.specs.State.{empty_state}
 use Rattle.session_cli.specs.declared.status.Status.TheVariants as status
 use Rattle.session_cli.specs.Headline.{Outcome}
 use Rattle.session_cli.specs.Turns.{Progress, start}

@@ -1,4 +1,4 @@
-use Rattle.std.proofs.Common.{◌≡◌, ◌+◌, ◌-◌, ◌*◌, ◌^◌, ◌≤◌, length, if◌then◌else◌, IfSome}
+use Rattle.std.proofs.Common.{◌+◌, ◌-◌, ◌*◌, ◌^◌, ◌≤◌, length, if◌then◌else◌, IfSome}
 use Rattle.session_cli.specs.Turns.{Progress}
 use Rattle.session_cli.proofs.reading.run_script.Given as goal
 

@@ -1,4 +1,4 @@
-use Rattle.std.proofs.Common.{◌≡◌, ◌+◌, ◌≤◌, subst, ◌∙◌, length, arith}
+use Rattle.std.proofs.Common.{subst, ◌∙◌, arith}
 use Rattle.sql_tokens.specs.declared.splitter.took.Took.TheVariants as took
 use Rattle.sql_tokens.specs.Splitting.{Takes}
 use Rattle.session_core.specs.declared.session.Done.{Done}
