@@ -1,9 +1,9 @@
 """What the benchmarks share: the built program, run over a script, with its time and its memory."""
 import os
-import resource
 import subprocess
 import sys
 import tempfile
+import threading
 import time
 from typing import NamedTuple
 
@@ -28,16 +28,42 @@ def program():
     return path
 
 
+class Watch(threading.Thread):
+    """Reads the high-water mark of a child's memory until told to end.
+
+    What the system tells after the child's end counts the memory of this process too, since the child
+    began as its copy.
+    """
+
+    def __init__(self, pid):
+        super().__init__()
+        self.pid, self.peak, self.is_over = pid, 0, threading.Event()
+
+    def run(self):
+        while not self.is_over.wait(0.002):
+            self.look()
+
+    def look(self):
+        with open(f"/proc/{self.pid}/status") as it:
+            for line in it:
+                if line.startswith("VmHWM:"):
+                    self.peak = int(line.split()[1]) * 1024
+
+
 def run(path, script):
     """Runs the program over the script, an open file; its output is let go."""
     with tempfile.TemporaryFile() as errors:
         begun = time.perf_counter()
         child = subprocess.Popen([path], stdin=script, stdout=subprocess.DEVNULL, stderr=errors)
-        _, status, used = os.wait4(child.pid, 0)
+        watch = Watch(child.pid)
+        watch.look()
+        watch.start()
+        # the child stays in /proc until it is waited for
+        os.waitid(os.P_PID, child.pid, os.WEXITED | os.WNOWAIT)
         seconds = time.perf_counter() - begun
-        child.returncode = os.waitstatus_to_exitcode(status)
-        size = errors.seek(0, os.SEEK_END)
-        return Run(child.returncode, seconds, used.ru_maxrss * 1024, size)
+        watch.is_over.set()
+        watch.join()
+        return Run(child.wait(), seconds, watch.peak, errors.seek(0, os.SEEK_END))
 
 
 def run_bytes(path, script):
