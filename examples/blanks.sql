@@ -1,0 +1,5 @@
+PREPARE	pAS
+SELECT
+
+7;
+EXECUTE p;

@@ -1,0 +1,3 @@
+PREPARE p AS SELECT 7; PREPARE q AS SELECT 8;
+EXECUTE p -- ;
+/* ; /* ; */ */; EXECUTE q

@@ -1,0 +1,6 @@
+PREPARE "a;b" AS SELECT 1; EXECUTE "a;b";
+PREPARE "--c" AS SELECT 2; EXECUTE "--c";
+PREPARE "/*d" AS SELECT 3; EXECUTE "/*d";
+PREPARE "e'f" AS SELECT 4; EXECUTE "e'f";
+PREPARE "g"";h" AS SELECT 5; EXECUTE "g"";h"; EXECUTE g;
+EXECUTE 'a;b'; EXECUTE 'it''s; one'; EXECUTE '"';

@@ -1,0 +1,8 @@
+-- An identifier has at most 63 bytes.
+PREPARE XXXXXXXXXXXXXXXXXXXXXXXXXXXXXXXXXXXXXXXXXXXXXXXXXXXXXXXXXXXXXXX AS SELECT 63; EXECUTE xxxxxxxxxxxxxxxxxxxxxxxxxxxxxxxxxxxxxxxxxxxxxxxxxxxxxxxxxxxxxxx;
+PREPARE XXXXXXXXXXXXXXXXXXXXXXXXXXXXXXXXXXXXXXXXXXXXXXXXXXXXXXXXXXXXXXXY AS SELECT 64; EXECUTE "XXXXXXXXXXXXXXXXXXXXXXXXXXXXXXXXXXXXXXXXXXXXXXXXXXXXXXXXXXXXXXXY";
+PREPARE ééééééééééééééééééééééééééééééé1 AS SELECT 31; EXECUTE ééééééééééééééééééééééééééééééé1; EXECUTE éééééééééééééééééééééééééééééééé; EXECUTE "éééééééééééééééééééééééééééééééé";
+-- The first refusal in the text comes, whatever the tokens would spell.
+xxxxxxxxxxxxxxxxxxxxxxxxxxxxxxxxxxxxxxxxxxxxxxxxxxxxxxxxxxxxxxxy 1a; 1a xxxxxxxxxxxxxxxxxxxxxxxxxxxxxxxxxxxxxxxxxxxxxxxxxxxxxxxxxxxxxxxy;
+-- Strings and numbers may be longer.
+EXECUTE 'xxxxxxxxxxxxxxxxxxxxxxxxxxxxxxxxxxxxxxxxxxxxxxxxxxxxxxxxxxxxxxxy';

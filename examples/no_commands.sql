@@ -1,0 +1,5 @@
+;;  ;	;
+;;
+-- a comment alone is no command
+;/* nor is this; */;/* /* */ ; */
+  ; -- ;

@@ -1,0 +1,3 @@
+PREPARE p AS SELECT 7;
+/* /* one comment has ended */ ;
+EXECUTE p;
