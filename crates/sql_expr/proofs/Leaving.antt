@@ -14,7 +14,7 @@ use Rattle.sql_expr.specs.Reading.{Text, Tokens, Outcome, Parser, and_then, ◌>
 use Rattle.sql_expr.specs.Literals.{digits_of}
 use Rattle.sql_expr.specs.Names.{name, name_of}
 use Rattle.sql_expr.specs.Operators.{comparison_of, additive_of, multiplicative_of}
-use Rattle.sql_expr.specs.Expressions.{column, constant_of, negative_number, grouped_from, parenthesized, call, named, constant_or_named, primary, negative, signed, product, sum, values, in_list, between, membership, comparison, null_test, negation, conjunction, disjunction, nested, expression}
+use Rattle.sql_expr.specs.Expressions.{column, constant_of, negative_number, grouped_from, parenthesized, call, named, constant_or_named, primary, negative, signed, product, sum, in_list, between, membership, comparison, null_test, negation, conjunction, disjunction, nested, expression}
 
 pub record Leaves {A : Type 0} (read : Parser A) : Type 0 where
   pub last : (ts : Tokens) (a : A) (us : Tokens) → read ts ≡ Some (a, us) → (n : ℕ) × (us ≡ drop n ts)
@@ -45,11 +45,13 @@ pub leaves-refuse : {A : Type 0} → Leaves (refuse {A = A})
 leaves-refuse = record { last = λ ts b us e. cc }
 
 pub leaves-bind : {A B : Type 0} {p : Parser A} {f : A → Parser B} → Leaves p → ((a : A) → Leaves (f a)) → Leaves (p >>= f)
-leaves-bind {p = p} {f = f} first rest = record { last = λ ts b us e.
-    let parts = bind_some (p ts) f b us e in
-    let front = first.last ts parts.a parts.middle parts.begun in
-    let back = (rest parts.a).last parts.middle b us parts.ended in
-    (front.0 + back.0, back.1 ∙ (ap (drop back.0) front.1 ∙ drop-drop back.0 front.0 ts)) }
+leaves-bind {p = p} {f = f} first rest = record {
+  last = λ ts b us e.
+      let parts = bind_some (p ts) f b us e in
+      let front = first.last ts parts.a parts.middle parts.begun in
+      let back = (rest parts.a).last parts.middle b us parts.ended in
+      (front.0 + back.0, back.1 ∙ (ap (drop back.0) front.1 ∙ drop-drop back.0 front.0 ts));
+}
 
 pub leaves-if : {A : Type 0} (b : Bool) {p q : Parser A} → Leaves p → Leaves q → Leaves (cond b p q)
 leaves-if true first second = first
@@ -218,8 +220,8 @@ pub suffix-place : (ts us : Tokens) (k : ℕ) → us ≡ drop k ts → (length u
 suffix-place ts us k e =
     let count = ap length e ∙ length-drop k ts in
     elim (cases_lt k (length ts)) [
-      inl within ↦ (omega (arith, count), let same : length ts - length us ≡ k = omega (arith, count) in e ∙ ap (λ n. drop n ts) (sym same))
-    | inr past ↦ (omega (arith, count), let same : length ts - length us ≡ length ts = omega (arith, count) in e ∙ (drop_all k ts past ∙ (sym (drop_all (length ts) ts (omega arith)) ∙ ap (λ n. drop n ts) (sym same))))
+      | inl within ↦ (omega (arith, count), let same : length ts - length us ≡ k = omega (arith, count) in e ∙ ap (λ n. drop n ts) (sym same))
+      | inr past ↦ (omega (arith, count), let same : length ts - length us ≡ length ts = omega (arith, count) in e ∙ (drop_all k ts past ∙ (sym (drop_all (length ts) ts (omega arith)) ∙ ap (λ n. drop n ts) (sym same))))
     ]
 
 pub read-place : (ts : Tokens) (at : ℕ) (expr : Expr) (us : Tokens) → expression (drop at ts) ≡ Some (expr, us) → (length us ≤ length ts) × (us ≡ drop (length ts - length us) ts)

@@ -16,9 +16,9 @@ pub fn read_expr(alloc: Global, tokens: &[Token], at: usize) -> Result<(Expr, us
     requires within { at ≤ length tokens.now }
     ensures { MatchResult result
         (λ read. (read.1 ≤ length tokens.now)
-            × (spec.expression (drop at tokens.now) ≡ Some (read.0, drop read.1 tokens.now)))
+        × (spec.expression (drop at tokens.now) ≡ Some (read.0, drop read.1 tokens.now)))
         (StopsBy (λ error. (error ≡ record { code = Code.SyntaxError; args = [] })
-            × (spec.expression (drop at tokens.now) ≡ None))) }
+        × (spec.expression (drop at tokens.now) ≡ None))) }
 {
     let mut cursor = Cursor::new(&tokens[at..]);
     let expr = expression(alloc, &mut cursor)?;
