@@ -1,3 +1,4 @@
 pub mod LevelLemmas
 pub mod NameLemmas
 pub mod Turns
+pub mod Leaving

@@ -1,10 +1,10 @@
 -- Names: words that aren't reserved, and quoted identifiers.
-use Rattle.std.specs.Prelude.{Bool, List, [], ◌∷◌, Option, Some, None, codes, if◌then◌else◌}
+use Rattle.std.specs.Prelude.{Bool, false, is_some, List, [], ◌∷◌, Option, Some, None, codes, if◌then◌else◌}
 use Rattle.std.specs.List.{list_any}
 use Rattle.std.specs.Str.{bytes_eq}
 use Rattle.sql_tokens.specs.declared.token.Token.{Token}
 use Rattle.sql_tokens.specs.declared.token.Token.TheVariants as token
-use Rattle.sql_expr.specs.Reading.{Text, Parser, ◌>>=◌, taken, required}
+use Rattle.sql_expr.specs.Reading.{Text, Tokens, Parser, ◌>>=◌, taken, required}
 
 abbrev pub reserved_words : List Text
 reserved_words =
@@ -23,6 +23,10 @@ abbrev pub name_of : Token → Option Text
 name_of (token.Word word) = if is_reserved word then None else Some word
 name_of (token.Quoted name) = Some name
 name_of _ = None
+
+unfoldable pub sees_name : Tokens → Bool
+sees_name [] = false
+sees_name (t ∷ ts) = is_some (name_of t)
 
 -- reads a name, if one comes next
 abbrev pub given_name : Parser (Option Text)

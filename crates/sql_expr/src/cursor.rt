@@ -53,6 +53,16 @@ impl<'a> Cursor<'a> {
         }
     }
 
+    /// The place behind the next token, if there is one.
+    pub fn past_next(&self) -> Cursor<'a>
+        ensures { result ≡ drop 1 self.now }
+    {
+        match self.rest {
+            [_, rest @ ..] => Cursor { rest },
+            [] => Cursor { rest: &[] },
+        }
+    }
+
     #[tactic(auto, unfolding(crate::specs::Reading::sees_word))]
     pub fn sees_word(&self, word: &str) -> bool
         ensures { result ≡ spec.sees_word word.now self.now }

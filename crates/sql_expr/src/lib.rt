@@ -8,9 +8,14 @@ mod literals;
 mod names;
 mod nodes;
 mod operators;
+mod slice;
 
 pub use cursor::Cursor;
 pub use grammar::expression;
 pub use levels::load;
 pub use literals::{eat_digits, eat_literal, eat_param, numeral};
-pub use names::{eat_name, is_reserved, name};
+pub use names::{eat_name, is_reserved, name, sees_name};
+pub use slice::read_expr;
+
+#[cfg(test)]
+mod tests;

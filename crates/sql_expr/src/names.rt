@@ -72,6 +72,17 @@ fn name_of(token: &Token) -> Option<&Str>
     }
 }
 
+/// Whether a name comes next.
+#[tactic(auto, unfolding(crate::specs::Names::sees_name))]
+pub fn sees_name(cursor: &Cursor<'_>) -> bool
+    ensures { result ≡ spec.sees_name cursor.now }
+{
+    match cursor.peek() {
+        Some(token) => name_of(token).is_some(),
+        None => false,
+    }
+}
+
 /// Goes past a name, if it comes next, and gives it.
 #[tactic(auto, unfolding(crate::specs::Reading::taken))]
 pub fn eat_name<'a>(cursor: &mut Cursor<'a>) -> Option<&'a Str>

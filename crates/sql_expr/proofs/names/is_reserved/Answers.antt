@@ -11,4 +11,4 @@ unfolding is_reserved
 returns c =
     let by_word = value_of-words c.args.word c.new-table.result.rows.now in
     let by_list = ap (λ rows. list_any (λ known. bytes_eq known c.args.word.now) (map (λ row. row.0.now) rows)) c.new-table.ensures in
-    c.is_some.ensures ∙ (is_some-copied c.find.result ∙ (ap is_some c.find.ensures ∙ (by_word ∙ by_list)))
+    c.is_some.ensures ∙ (is_some-copied c.find.result ∙ (ap is_some c.find.ensures.value ∙ (by_word ∙ by_list)))
