@@ -1,0 +1,8 @@
+//! The outcomes that a cursor keeps of its query's answer.
+#![tactic(auto)]
+
+mod row_buffer;
+#[cfg(test)]
+mod tests;
+
+pub use row_buffer::RowBuffer;
