@@ -1,0 +1,5 @@
+mod Cuts
+mod Edits
+mod Lists
+mod Orders
+mod Sides

@@ -1,0 +1,12 @@
+//! The entries of an index in the order of their keys, and ranges of them.
+#![tactic(auto)]
+
+mod block;
+mod cut;
+mod entries;
+
+pub mod laws;
+mod order;
+
+pub use entries::{Edge, IndexPlace, Key, KeyRange};
+
