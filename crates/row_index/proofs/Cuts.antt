@@ -49,6 +49,24 @@ not_false : (b : Bool) → not b ≡ false → b ≡ true
 not_false true e = refl
 not_false false e = sym e
 
+-- the next entry of a range, where the first one that isn't before it is within
+abbrev pub next_of : KeyRange → Option IndexPlace → Option IndexPlace
+next_of range None = None
+next_of range (Some entry) = if is_eq (key_side range entry.key) then Some entry else None
+
+abbrev pub is_next : KeyRange → Option IndexPlace → IndexPlace → Bool
+is_next range last entry = is_within range entry.key && is_past last entry
+
+abbrev lies_early : KeyRange → Option IndexPlace → IndexPlace → Bool
+lies_early range last entry = is_lt (key_side range entry.key) || not (is_past last entry)
+
+-- the first one that isn't before the range is within, or not
+pub next_taken : (range : KeyRange) (entry : IndexPlace) → is_eq (key_side range entry.key) ≡ true → Some entry ≡ next_of range (Some entry)
+next_taken range entry e = rw e refl
+
+pub next_left : (range : KeyRange) (entry : IndexPlace) → is_eq (key_side range entry.key) ≡ false → None ≡ next_of range (Some entry)
+next_left range entry e = rw e refl
+
 module _ (o : IsTotalOrder value_cmp) where
   past_down : (last : Option IndexPlace) (x y : IndexPlace) → entry_cmp x y ≡ Less → not (is_past last y) ≡ true → not (is_past last x) ≡ true
   past_down None x y lt e = e
@@ -63,17 +81,6 @@ module _ (o : IsTotalOrder value_cmp) where
       or_down (is_lt (key_side range.now x.key)) (is_lt (key_side range.now y.key)) (not (is_past (option_copied last) x)) (not (is_past (option_copied last) y))
       (less_down _ _ (side_up range.now x y lt)) (past_down (option_copied last) x y lt) e
 
-  -- the next entry of a range, where the first one that isn't before it is within
-  abbrev pub next_of : KeyRange → Option IndexPlace → Option IndexPlace
-  next_of range None = None
-  next_of range (Some entry) = if is_eq (key_side range entry.key) then Some entry else None
-
-  abbrev pub is_next : KeyRange → Option IndexPlace → IndexPlace → Bool
-  is_next range last entry = is_within range entry.key && is_past last entry
-
-  abbrev lies_early : KeyRange → Option IndexPlace → IndexPlace → Bool
-  lies_early range last entry = is_lt (key_side range entry.key) || not (is_past last entry)
-
   pub next_found : (range : KeyRange) (last : Option IndexPlace) (xs : List IndexPlace) → IsAscending xs → next_of range (find (λ entry. not (lies_early range last entry)) xs) ≡ find (is_next range last) xs
   next_found range last [] up = refl
   next_found range last (x ∷ xs) up = rw (within_is_side range x.key) (at (lies_early range last x) refl (next_found range last xs up.1))
@@ -83,13 +90,16 @@ module _ (o : IsTotalOrder value_cmp) where
       early Equal true e = absurd (true≢false (sym e))
       early Equal false e = refl
       early Greater past e = refl
+
       beyond : is_lt (key_side range x.key) ≡ false → is_eq (key_side range x.key) ≡ false → find (is_next range last) xs ≡ None
       beyond e f =
           find_none (is_next range last) xs
           (each_map (λ later. entry_cmp x later ≡ Less) (λ later. is_next range last later ≡ false) (λ later lt. rw (within_is_side range later.key) (rw (greater_up (key_side range x.key) (key_side range later.key) (side_up range x later lt) e f) refl)) xs up.0)
+
       late : is_lt (key_side range x.key) ≡ false → (same : Bool) → is_eq (key_side range x.key) ≡ same → (if same then Some x else None) ≡ (if same && true then Some x else find (is_next range last) xs)
       late e true f = refl
       late e false f = sym (beyond e f)
+
       at : (b : Bool) → lies_early range last x ≡ b → next_of range (find (λ entry. not (lies_early range last entry)) xs) ≡ find (is_next range last) xs → next_of range (if not b then Some x else find (λ entry. not (lies_early range last entry)) xs) ≡ (if is_eq (key_side range x.key) && is_past last x then Some x else find (is_next range last) xs)
       at true e rest = rw (early (key_side range x.key) (is_past last x) e) rest
       at false e rest =

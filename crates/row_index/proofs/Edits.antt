@@ -45,7 +45,7 @@ with_entry_new entry (x ∷ xs) (suc i) within parted e =
     let less : entry_cmp x entry ≡ Less = less_is _ (parted.0 0 x (omega arith) (omega arith)) in
     rw less (ap (λ (rest : List IndexPlace). x ∷ rest) (with_entry_new entry xs i (omega arith) (parts_tail entry x xs i parted) e))
 
-filter_all : {X : Type 0} (q : X → Bool) (xs : List X) → Each (λ x. q x ≡ true) xs → filter q xs ≡ xs
+pub filter_all : {X : Type 0} (q : X → Bool) (xs : List X) → Each (λ x. q x ≡ true) xs → filter q xs ≡ xs
 filter_all q [] each = refl
 filter_all q (x ∷ xs) each = rw each.0 (ap (λ rest. x ∷ rest) (filter_all q xs each.1))
 
@@ -85,7 +85,7 @@ module _ (o : IsTotalOrder value_cmp) where
       at Equal f g = sym (order.congr x entry y f) ∙ lt
       at Greater f g = order.trans entry x y (greater_back x entry f) lt
 
-  apart : (entry x : IndexPlace) (xs : List IndexPlace) → is_lt (entry_cmp x entry) ≡ false → Each (λ later. entry_cmp x later ≡ Less) xs → Each (λ later. not (is_eq (entry_cmp later entry)) ≡ true) xs
+  pub apart : (entry x : IndexPlace) (xs : List IndexPlace) → is_lt (entry_cmp x entry) ≡ false → Each (λ later. entry_cmp x later ≡ Less) xs → Each (λ later. not (is_eq (entry_cmp later entry)) ≡ true) xs
   apart entry x xs e each = each_map (λ later. entry_cmp x later ≡ Less) (λ later. not (is_eq (entry_cmp later entry)) ≡ true) (λ later lt. ap (λ r. not (is_eq r)) (later_greater x later entry lt e)) xs each
 
   pub without_entry_there : (entry : IndexPlace) (xs : List IndexPlace) (i : ℕ) → IsAscending xs → i ≤ length xs → PartsAt entry xs i → is_at entry (slice_get xs i) ≡ true → without_entry entry xs ≡ remove xs i

@@ -1,3 +1,4 @@
+mod Blocks
 mod Cuts
 mod Edits
 mod Lists

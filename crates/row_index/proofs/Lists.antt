@@ -10,7 +10,7 @@ use Rattle.row_index.specs.Order.{value_cmp, entry_cmp}
 use Rattle.row_index.specs.Entries.{Each, IsAscending, IsFilled, by_order, is_at, joined, with_entry, without_entry}
 use Rattle.row_index.proofs.Orders.{entries_total, less_is}
 
-both : (a b : Bool) → a && b ≡ true → (a ≡ true) × (b ≡ true)
+pub both : (a b : Bool) → a && b ≡ true → (a ≡ true) × (b ≡ true)
 both true b e = (refl, e)
 both false b e = absurd (true≢false (sym e))
 
@@ -20,7 +20,7 @@ module _ {X : Type 0} where
   each_at P (x ∷ xs) each zero d lt = each.0
   each_at P (x ∷ xs) each (suc i) d lt = each_at P xs each.1 i d (omega arith)
 
-  each_get : (P : X → Type 0) (xs : List X) → Each P xs → (i : ℕ) (x : X) → slice_get xs i ≡ Some x → P x
+  pub each_get : (P : X → Type 0) (xs : List X) → Each P xs → (i : ℕ) (x : X) → slice_get xs i ≡ Some x → P x
   each_get P [] each i x e = absurd (cc)
   each_get P (y ∷ ys) each zero x e = let same : y ≡ x = cc in subst P same each.0
   each_get P (y ∷ ys) each (suc i) x e = each_get P ys each.1 i x e
@@ -29,11 +29,11 @@ module _ {X : Type 0} where
   each_map P Q f [] each = tt
   each_map P Q f (x ∷ xs) each = (f x each.0, each_map P Q f xs each.1)
 
-  each_left : (P : X → Type 0) (xs ys : List X) → Each P (xs ++ ys) → Each P xs
+  pub each_left : (P : X → Type 0) (xs ys : List X) → Each P (xs ++ ys) → Each P xs
   each_left P [] ys each = tt
   each_left P (x ∷ xs) ys each = (each.0, each_left P xs ys each.1)
 
-  each_right : (P : X → Type 0) (xs ys : List X) → Each P (xs ++ ys) → Each P ys
+  pub each_right : (P : X → Type 0) (xs ys : List X) → Each P (xs ++ ys) → Each P ys
   each_right P [] ys each = each
   each_right P (x ∷ xs) ys each = each_right P xs ys each.1
 
@@ -45,11 +45,11 @@ module _ {X : Type 0} where
       at true later = (each.0, later)
       at false later = later
 
-  all_from_each : (p : X → Bool) (xs : List X) → Each (λ x. p x ≡ true) xs → list_all p xs ≡ true
+  pub all_from_each : (p : X → Bool) (xs : List X) → Each (λ x. p x ≡ true) xs → list_all p xs ≡ true
   all_from_each p [] each = refl
   all_from_each p (x ∷ xs) each = rw each.0 (all_from_each p xs each.1)
 
-  each_from_all : (p : X → Bool) (xs : List X) → list_all p xs ≡ true → Each (λ x. p x ≡ true) xs
+  pub each_from_all : (p : X → Bool) (xs : List X) → list_all p xs ≡ true → Each (λ x. p x ≡ true) xs
   each_from_all p [] e = tt
   each_from_all p (x ∷ xs) e = let parts = both (p x) (list_all p xs) e in (parts.0, each_from_all p xs parts.1)
 
@@ -65,11 +65,11 @@ module _ {X : Type 0} where
   find_none r [] each = refl
   find_none r (x ∷ xs) each = rw each.0 (find_none r xs each.1)
 
-  find_later : (p : X → Bool) (xs ys : List X) → list_all p xs ≡ true → find (λ x. not (p x)) (xs ++ ys) ≡ find (λ x. not (p x)) ys
+  pub find_later : (p : X → Bool) (xs ys : List X) → list_all p xs ≡ true → find (λ x. not (p x)) (xs ++ ys) ≡ find (λ x. not (p x)) ys
   find_later p [] ys e = refl
   find_later p (x ∷ xs) ys e = let parts = both (p x) (list_all p xs) e in rw parts.0 (find_later p xs ys parts.1)
 
-  find_here : (p : X → Bool) (xs ys : List X) → list_all p xs ≡ false → find (λ x. not (p x)) (xs ++ ys) ≡ find (λ x. not (p x)) xs
+  pub find_here : (p : X → Bool) (xs ys : List X) → list_all p xs ≡ false → find (λ x. not (p x)) (xs ++ ys) ≡ find (λ x. not (p x)) xs
   find_here p [] ys e = absurd (true≢false e)
   find_here p (x ∷ xs) ys e = at (p x) (find_here p xs ys) e
     where
@@ -113,3 +113,23 @@ all_of_none p (x ∷ xs) e = absurd (some xs x e)
     some : (xs : List IndexPlace) (x : IndexPlace) → slice_get (x ∷ xs) (length (x ∷ xs) - 1) ≡ None → ⊥
     some [] x e = cc
     some (y ∷ ys) x e = let same : length (x ∷ y ∷ ys) - 1 ≡ suc (length (y ∷ ys) - 1) = omega arith in some ys y (rw same at e)
+
+-- the parts of an ascending list
+pub ascending_front : (xs ys : List IndexPlace) → IsAscending (xs ++ ys) → IsAscending xs
+ascending_front [] ys up = tt
+ascending_front (x ∷ xs) ys up = (each_left (λ later. entry_cmp x later ≡ Less) xs ys up.0, ascending_front xs ys up.1)
+
+pub ascending_back : (xs ys : List IndexPlace) → IsAscending (xs ++ ys) → IsAscending ys
+ascending_back [] ys up = up
+ascending_back (x ∷ xs) ys up = ascending_back xs ys up.1
+
+pub take_drop : (n : ℕ) (xs : List IndexPlace) → take n xs ++ drop n xs ≡ xs
+take_drop zero xs = refl
+take_drop (suc n) [] = refl
+take_drop (suc n) (x ∷ xs) = ap (λ (rest : List IndexPlace). x ∷ rest) (take_drop n xs)
+
+pub ascending_take : (n : ℕ) (xs part : List IndexPlace) → IsAscending xs → part ≡ take n xs → IsAscending part
+ascending_take n xs part up e = subst IsAscending (sym e) (ascending_front (take n xs) (drop n xs) (subst IsAscending (sym (take_drop n xs)) up))
+
+pub ascending_drop : (n : ℕ) (xs part : List IndexPlace) → IsAscending xs → part ≡ drop n xs → IsAscending part
+ascending_drop n xs part up e = subst IsAscending (sym e) (ascending_back (take n xs) (drop n xs) (subst IsAscending (sym (take_drop n xs)) up))

@@ -65,6 +65,7 @@ module _ {K : Type 0} {R : K → K → Ordering} (o : IsTotalOrder R) where
       below Less e lt = omega (arith, ap ordering_index (o.trans x y z lt e))
       below Equal e lt = omega (arith, ap ordering_index (sym (alike_right o y z x e) ∙ lt))
       below Greater e lt = greatest_rank (R x z)
+
       at : (r : Ordering) → R x y ≡ r → is_gt r ≡ false → ordering_index (R x z) ≤ ordering_index (R y z)
       at Less e h = below (R y z) refl e
       at Equal e h = omega (arith, ap ordering_index (o.congr x y z e))

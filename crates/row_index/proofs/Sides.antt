@@ -111,8 +111,8 @@ module _ (o : IsTotalOrder value_cmp) where
       rw (then_assoc (value_cmp x v) (keys_cmp (take (length vs) xs) vs) (next_side range (slice_get xs (length vs))))
       (rw (then_assoc (value_cmp y v) (keys_cmp (take (length vs) ys) vs) (next_side range (slice_get ys (length vs))))
       (then_up (value_cmp x v) (value_cmp y v) (side_from range vs xs) (side_from range vs ys)
-        (rank_up o x y v (then_first _ _ up))
-        (λ e f. side_from_up range vs xs ys (rw (tied_both o x y v e f) at up))))
+      (rank_up o x y v (then_first _ _ up))
+      (λ e f. side_from_up range vs xs ys (rw (tied_both o x y v e f) at up))))
 
   pub key_side_up : (range : KeyRange) (a b : List Value) → is_gt (keys_cmp a b) ≡ false → ordering_index (key_side range a) ≤ ordering_index (key_side range b)
   key_side_up range a b up = side_from_up range range.equal a b up
@@ -127,12 +127,14 @@ within_is_side range key =
     then_eq Less s = refl
     then_eq Equal s = refl
     then_eq Greater s = refl
+
     tests : (a n b : Bool) → (not n && (a && b)) ≡ is_eq (side_by a n b)
     tests true true b = refl
     tests false true b = refl
     tests true false true = refl
     tests true false false = refl
     tests false false b = refl
+
     next_within : (edges : Bool) (next : Option Value) → (not edges || lies_within range next) ≡ is_eq (if edges then edged_side range next else Equal)
     next_within false next = refl
     next_within true None = refl

@@ -1,4 +1,4 @@
-ghost use Rattle.std.specs.Prelude.{◌≡◌, ◌≤◌, true, false, not, [], ◌∷◌, ◌++◌, length, find, slice_get, OnOk, OnErr};
+ghost use Rattle.std.specs.Prelude.{◌≡◌, ◌≤◌, true, false, not, [], ◌∷◌, ◌++◌, length, take, drop, find, slice_get, IfOk, OnOk, OnErr};
 ghost use Rattle.std.specs.List.{list_all};
 ghost use Rattle.std.specs.List.Sorted.{IsPartitionPoint};
 ghost use Rattle.std.specs.Option.{option_copied};
@@ -13,9 +13,6 @@ use q_base::{NoMemory, SlotId};
 use q_value::laws;
 use std::alloc::Global;
 use std::marker::Model;
-
-/// The greatest number of entries that a block may have once it was divided.
-const MOST: usize = 512;
 
 /// Consecutive entries in their order, none twice: few enough that one can be put between them cheaply.
 #[derive(Drop)]
@@ -36,12 +33,29 @@ impl Model for Block {
 }
 
 impl Block {
+    /// The block without entries.
     pub(crate) fn new(alloc: Global) -> Block
         ensures { result ≡ [] }
     {
         Block {
             entries: Vec::new(alloc),
         }
+    }
+
+    /// The block of one entry.
+    pub(crate) fn of_entry(alloc: Global, entry: IndexPlace) -> Result<Block, NoMemory>
+        ensures { IfOk result (λ block. block ≡ entry ∷ []) }
+    {
+        let mut entries = Vec::new(alloc);
+        entries.push(entry)?;
+        Ok(Block { entries })
+    }
+
+    /// How many entries it has.
+    pub(crate) fn len(&self) -> usize
+        ensures { result ≡ length self.now }
+    {
+        self.entries.len()
     }
 
     /// Tells whether all its entries lie before the cut.
@@ -93,6 +107,17 @@ impl Block {
         if self.has_at(place, key, slot) {
             let _ = self.entries.remove(place);
         }
+    }
+
+    /// The entries from a place on, which it gives up, or nothing where memory is refused.
+    pub(crate) fn split_off(&mut self, place: usize) -> Result<Block, NoMemory>
+        requires { place ≤ length self.old }
+        ensures front { OnOk result (self.new ≡ take place self.old) }
+        ensures back { IfOk result (λ back. back ≡ drop place self.old) }
+        ensures err { OnErr result (self.new ≡ self.old) }
+    {
+        let entries = self.entries.split_off(place)?;
+        Ok(Block { entries })
     }
 
     /// Tells whether the entry stands at a place.

@@ -4,9 +4,9 @@
 mod block;
 mod cut;
 mod entries;
-
+mod index;
 pub mod laws;
 mod order;
 
 pub use entries::{Edge, IndexPlace, Key, KeyRange};
-
+pub use index::Index;
