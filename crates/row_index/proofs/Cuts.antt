@@ -9,7 +9,7 @@ use Rattle.row_index.specs.declared.cut.Cut.TheVariants.{Entry, Rest}
 use Rattle.row_index.specs.declared.entries.IndexPlace.{IndexPlace}
 use Rattle.row_index.specs.declared.entries.KeyRange.{KeyRange}
 use Rattle.row_index.specs.Order.{value_cmp, entry_cmp, entry_of, is_past}
-use Rattle.row_index.specs.Ranges.{is_within, key_side}
+use Rattle.row_index.specs.Ranges.{is_next, is_within, key_side}
 use Rattle.row_index.specs.Cuts.{is_before}
 use Rattle.row_index.specs.Entries.{Each, IsAscending}
 use Rattle.row_index.proofs.Orders.{entries_total, less_is, then_first}
@@ -53,9 +53,6 @@ not_false false e = sym e
 abbrev pub next_of : KeyRange → Option IndexPlace → Option IndexPlace
 next_of range None = None
 next_of range (Some entry) = if is_eq (key_side range entry.key) then Some entry else None
-
-abbrev pub is_next : KeyRange → Option IndexPlace → IndexPlace → Bool
-is_next range last entry = is_within range entry.key && is_past last entry
 
 abbrev lies_early : KeyRange → Option IndexPlace → IndexPlace → Bool
 lies_early range last entry = is_lt (key_side range entry.key) || not (is_past last entry)

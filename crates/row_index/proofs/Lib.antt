@@ -4,3 +4,4 @@ mod Edits
 mod Lists
 mod Orders
 mod Sides
+mod Walks

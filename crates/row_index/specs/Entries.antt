@@ -1,5 +1,5 @@
 use Rattle.std.specs.Prelude.{◌≡◌, ◌<◌, Bool, false, not, Option, None, Some, List, [], ◌∷◌, length, filter}
-use Rattle.std.specs.List.{flat_map}
+use Rattle.std.specs.List.{flat_map, list_any}
 use Rattle.std.specs.declared.cmp.Ordering.{Ordering}
 use Rattle.std.specs.declared.cmp.Ordering.TheVariants.{Less, Equal, Greater}
 use Rattle.std.specs.Ordering.{is_eq}
@@ -29,6 +29,10 @@ with_entry new (entry ∷ entries) = by_order (entry_cmp entry new) (entry ∷ w
 -- the entries without one
 abbrev pub without_entry : IndexPlace → List IndexPlace → List IndexPlace
 without_entry gone entries = filter (λ entry. not (is_eq (entry_cmp entry gone))) entries
+
+-- an entry is among these
+abbrev pub has_entry : List IndexPlace → IndexPlace → Bool
+has_entry entries entry = list_any (λ found. is_eq (entry_cmp found entry)) entries
 
 -- the entry is the one that was found
 abbrev pub is_at : IndexPlace → Option IndexPlace → Bool

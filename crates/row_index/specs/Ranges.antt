@@ -1,12 +1,13 @@
-use Rattle.std.specs.Prelude.{Bool, true, false, not, ◌&&◌, ◌||◌, Option, None, Some, is_some, List, length, take, slice_get, if◌then◌else◌}
+use Rattle.std.specs.Prelude.{Bool, true, false, not, ◌&&◌, ◌||◌, Option, None, Some, is_some, List, length, take, filter, slice_get, if◌then◌else◌}
 use Rattle.std.specs.declared.cmp.Ordering.{Ordering}
 use Rattle.std.specs.declared.cmp.Ordering.TheVariants.{Less, Equal, Greater}
 use Rattle.std.specs.Ordering.{is_eq, ordering_then}
 use Rattle.q_value.specs.declared.value.Value.{Value}
 use Rattle.q_value.specs.declared.value.Value.TheVariants as value
 use Rattle.row_index.specs.declared.entries.Edge.{Edge}
+use Rattle.row_index.specs.declared.entries.IndexPlace.{IndexPlace}
 use Rattle.row_index.specs.declared.entries.KeyRange.{KeyRange}
-use Rattle.row_index.specs.Order.{keys_cmp, value_cmp}
+use Rattle.row_index.specs.Order.{is_past, keys_cmp, value_cmp}
 
 -- the first values of a key tie with these
 abbrev pub begins_with : List Value → List Value → Bool
@@ -47,6 +48,14 @@ lies_within range (Some value) = not (is_null value) && (is_above range.low valu
 -- a key begins with the range's values, and where there is an edge its next value lies within
 abbrev pub is_within : KeyRange → List Value → Bool
 is_within range key = begins_with range.equal key && (not (has_edge range) || lies_within range (slice_get key (length range.equal)))
+
+-- an entry of the range that comes after the last one, if there was one
+abbrev pub is_next : KeyRange → Option IndexPlace → IndexPlace → Bool
+is_next range last entry = is_within range entry.key && is_past last entry
+
+-- the entries of the range that come after the last one, in order
+abbrev pub entries_past : KeyRange → Option IndexPlace → List IndexPlace → List IndexPlace
+entries_past range last entries = filter (is_next range last) entries
 
 -- where a key lies to the range: before it, in it or after it
 abbrev pub value_side : KeyRange → Value → Ordering

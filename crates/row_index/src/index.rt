@@ -1,11 +1,13 @@
-ghost use Rattle.std.specs.Prelude.{◌≡◌, ◌+◌, ◌<◌, ◌≤◌, true, false, not, ◌&&◌, [], length, find, slice_index_or, slice_set, OnOk, OnErr};
+ghost use Rattle.std.specs.Prelude.{◌≡◌, ◌+◌, ◌<◌, ◌≤◌, true, false, not, ◌&&◌, ◌||◌, [], ◌∷◌, length, find, slice_index_or, slice_set, OnOk, OnErr, MatchOption, Some};
 ghost use Rattle.std.specs.List.{list_all};
 ghost use Rattle.std.specs.List.Sorted.{IsPartitionPoint};
 ghost use Rattle.std.specs.Option.{option_copied};
-ghost use Rattle.row_index.specs.Order.{entry_of, is_past};
-ghost use Rattle.row_index.specs.Ranges.{is_within};
+ghost use Rattle.std.specs.Ordering.{is_eq};
+ghost use Rattle.row_index.specs.declared.entries.IndexPlace.{IndexPlace};
+ghost use Rattle.row_index.specs.Order.{entry_cmp, entry_of};
+ghost use Rattle.row_index.specs.Ranges.{entries_past, is_next};
 ghost use Rattle.row_index.specs.Cuts.{is_before};
-ghost use Rattle.row_index.specs.Entries.{Each, IsAscending, IsFilled, joined, with_entry, without_entry};
+ghost use Rattle.row_index.specs.Entries.{Each, IsAscending, IsFilled, has_entry, joined, with_entry, without_entry};
 
 use crate::block::Block;
 use crate::cut::{Cut, key_side_of};
@@ -54,11 +56,19 @@ impl Index {
     /// Puts an entry at its place, and changes nothing where it is there or where memory is refused.
     pub fn add(&mut self, key: Key, slot: SlotId) -> Result<(), NoMemory>
         ensures ok { OnOk result (self.new ≡ with_entry (entry_of key slot) self.old) }
+        ensures members { OnOk result ((other : IndexPlace) → has_entry self.new other ≡ (is_eq (entry_cmp (entry_of key slot) other) || has_entry self.old other)) }
         ensures err { OnErr result (self.new ≡ self.old) }
     {
         laws::orders();
-        let entry = IndexPlace { key, slot };
-        let at = block_from(self.blocks.as_slice(), &Cut::Entry(&entry.key, slot));
+        self.put(IndexPlace { key, slot })
+    }
+
+    fn put(&mut self, entry: IndexPlace) -> Result<(), NoMemory>
+        ensures ok { OnOk result (self.new ≡ with_entry entry self.old) }
+        ensures err { OnErr result (self.new ≡ self.old) }
+    {
+        laws::orders();
+        let at = block_from(self.blocks.as_slice(), &Cut::Entry(&entry.key, entry.slot));
         if at < self.blocks.len() {
             add_to(self.alloc, &mut self.blocks, at, entry)
         } else if at > 0 {
@@ -71,7 +81,8 @@ impl Index {
 
     /// Takes an entry out, and changes nothing where it isn't there.
     pub fn remove(&mut self, key: &Key, slot: SlotId)
-        ensures { self.new ≡ without_entry (entry_of key.now slot) self.old }
+        ensures left { self.new ≡ without_entry (entry_of key.now slot) self.old }
+        ensures members { (other : IndexPlace) → has_entry self.new other ≡ (not (is_eq (entry_cmp (entry_of key.now slot) other)) && has_entry self.old other) }
     {
         laws::orders();
         let at = block_from(self.blocks.as_slice(), &Cut::Entry(key, slot));
@@ -83,7 +94,9 @@ impl Index {
     /// The least entry of a range that comes after `last`, or of the whole range where there is no
     /// `last`; `None` exactly where there is no such entry.
     pub fn after(&self, range: &KeyRange, last: Option<&IndexPlace>) -> Option<&IndexPlace>
-        ensures { option_copied result ≡ find (λ entry. is_within range.now entry.key && is_past (option_copied last.entry) entry) self.now }
+        ensures first { option_copied result ≡ find (is_next range.now (option_copied last.entry)) self.now }
+        ensures rest { MatchOption (option_copied result) (entries_past range.now (option_copied last.entry) self.now ≡ []) (λ found. entries_past range.now (option_copied last.entry) self.now ≡ found ∷ entries_past range.now (Some found) self.now) }
+        ensures ascending { IsAscending self.now }
     {
         laws::orders();
         let next = first_from(self.blocks.as_slice(), &Cut::Rest(range, last))?;

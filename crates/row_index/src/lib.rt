@@ -7,6 +7,8 @@ mod entries;
 mod index;
 pub mod laws;
 mod order;
+#[cfg(test)]
+mod tests;
 
 pub use entries::{Edge, IndexPlace, Key, KeyRange};
 pub use index::Index;
