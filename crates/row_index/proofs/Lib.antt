@@ -1,0 +1,7 @@
+mod Blocks
+mod Cuts
+mod Edits
+mod Lists
+mod Orders
+mod Sides
+mod Walks

@@ -1,0 +1,4 @@
+pub mod Cuts
+pub mod Entries
+pub mod Order
+pub mod Ranges

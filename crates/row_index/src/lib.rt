@@ -1,0 +1,14 @@
+//! The entries of an index in the order of their keys, and ranges of them.
+#![tactic(auto)]
+
+mod block;
+mod cut;
+mod entries;
+mod index;
+pub mod laws;
+mod order;
+#[cfg(test)]
+mod tests;
+
+pub use entries::{Edge, IndexPlace, Key, KeyRange};
+pub use index::Index;
