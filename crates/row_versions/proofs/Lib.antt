@@ -1,0 +1,4 @@
+mod Changed
+mod Kept
+mod Positions
+mod Shown
