@@ -1,4 +1,10 @@
 mod Changed
+mod Histories
 mod Kept
+mod Live
+mod Logs
+mod Places
 mod Positions
+mod Rows
 mod Shown
+mod Sounds

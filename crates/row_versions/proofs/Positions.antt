@@ -49,15 +49,13 @@ slots_at_read (t ∷ tables) zero table h e = ap (λ (u : Stored). u.slots) (sym
 slots_at_read (t ∷ tables) (suc n) table h e = slots_at_read tables n table (omega arith) e
 
 pub slots_at_past : (tables : List Stored) (n : ℕ) → length tables ≤ n → slots_at n tables ≡ []
-slots_at_past [] zero h = refl
-slots_at_past [] (suc n) h = refl
+slots_at_past [] n h = refl
 slots_at_past (t ∷ tables) zero h = absurd (omega arith)
 slots_at_past (t ∷ tables) (suc n) h = slots_at_past tables n (omega arith)
 
 -- a table rewritten under its id keeps all places
 pub position_of-set : (tables : List Stored) (n : ℕ) (x y : Stored) (id : ℕ) → n < length tables → x ≡ get_or tables n x → y.id ≡ x.id → position_of id (set tables n y) ≡ position_of id tables
-position_of-set [] zero x y id h at e = absurd (omega arith)
-position_of-set [] (suc n) x y id h at e = absurd (omega arith)
+position_of-set [] n x y id h at e = absurd (omega arith)
 position_of-set (t ∷ tables) zero x y id h at e =
     ap (λ (i : ObjId). cond (eqb i.0 id) (Some 0) (option_map (λ n. suc n) (position_of id tables))) (e ∙ ap (λ (u : Stored). u.id) at)
 position_of-set (t ∷ tables) (suc n) x y id h at e =

@@ -1,2 +1,4 @@
+pub mod Sound
+pub mod State
 pub mod Stored
 pub mod Versions

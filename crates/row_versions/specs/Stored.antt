@@ -1,10 +1,10 @@
-use Rattle.std.specs.Prelude.{ℕ, ◌+◌, ◌==◌, ◌≡◌, ◌≤◌, ◌<◌, if◌then◌else◌, Bool, Option, None, Some, List, [], ◌∷◌, ◌++◌, slice_index_or, length, suc, zero, drop, IsSomeAnd, IfSome, MatchOption, is_some}
-use Rattle.std.specs.Option.{option_map}
+use Rattle.std.specs.Prelude.{ℕ, ◌+◌, ◌==◌, if◌then◌else◌, Bool, false, Option, None, Some, List, [], ◌∷◌, ◌++◌, slice_index_or, suc, zero, is_some, is_none, count_by, sum_by, map}
+use Rattle.std.specs.Option.{option_map, option_map_or}
 use Rattle.q_base.specs.declared.ids.ObjId.{ObjId}
 use Rattle.q_value.specs.declared.value.Value.{Value}
 use Rattle.row_versions.specs.declared.slot.Version.{Version}
 use Rattle.row_versions.specs.declared.tables.Place.{Place}
-use Rattle.row_versions.specs.Versions.{shown_in}
+use Rattle.row_versions.specs.Versions.{shown_in, kept}
 
 -- a table: the versions of each slot that was given, from the newest to the oldest
 pub record Stored : Type 0 where
@@ -13,9 +13,9 @@ pub record Stored : Type 0 where
 
 -- the list with one element changed, where there is one at that place
 abbrev pub changed : {A : Type 0} → ℕ → (A → A) → List A → List A
+changed n f [] = []
 changed zero f (x ∷ xs) = f x ∷ xs
 changed (suc n) f (x ∷ xs) = x ∷ changed n f xs
-changed n f [] = []
 
 -- the table with the versions of one slot changed
 abbrev pub in_slot : ℕ → (List Version → List Version) → Stored → Stored
@@ -51,7 +51,7 @@ with_table id tables = if is_some (position_of id.0 tables) then tables else tab
 
 -- the tables with one more slot in one of them
 abbrev pub with_slot : ℕ → List Version → List Stored → List Stored
-with_slot at versions tables = changed at (λ table. record table { slots = table.slots ++ versions ∷ [] }) tables
+with_slot at versions tables = changed at (λ (table : Stored). record table { slots = table.slots ++ versions ∷ [] }) tables
 
 -- the tables with the versions of one slot changed
 abbrev pub in_place : Place → (List Version → List Version) → List Stored → List Stored
@@ -59,10 +59,27 @@ in_place place f tables = changed place.table (in_slot place.slot f) tables
 
 -- the slots of the table at a place
 abbrev pub slots_at : ℕ → List Stored → List (List Version)
+slots_at at [] = []
 slots_at zero (table ∷ tables) = table.slots
 slots_at (suc at) (table ∷ tables) = slots_at at tables
-slots_at at [] = []
+
+-- the slots of a table, none where it was not added
+abbrev pub slots_of : ObjId → List Stored → List (List Version)
+slots_of id tables = option_map_or (λ at. slots_at at tables) (position_of id.0 tables) []
 
 -- the versions of a slot, none where it was not given
 abbrev pub versions_in : Place → List Stored → List Version
 versions_in place tables = slice_index_or (slots_at place.table tables) place.slot []
+
+-- the newest version has no end
+abbrev pub is_live : List Version → Bool
+is_live [] = false
+is_live (version ∷ versions) = is_none version.until
+
+-- how many rows are live
+abbrev pub live_of : List Stored → ℕ
+live_of tables = sum_by (λ (table : Stored). count_by is_live table.slots) tables
+
+-- each slot with the versions that one of the snapshots shows
+abbrev pub pruned : List ℕ → List Stored → List Stored
+pruned snaps tables = map (λ (table : Stored). record table { slots = map (kept snaps) table.slots }) tables

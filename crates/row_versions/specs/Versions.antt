@@ -1,4 +1,4 @@
-use Rattle.std.specs.Prelude.{ℕ, Bool, true, nat_lt, nat_le, ◌&&◌, ◌||◌, if◌then◌else◌, Option, None, Some, List, [], ◌∷◌, ◌++◌, drop, filter, ◌≡◌, ◌≤◌, All, IfSome}
+use Rattle.std.specs.Prelude.{ℕ, Bool, true, false, nat_lt, nat_le, ◌&&◌, ◌||◌, if◌then◌else◌, Option, None, Some, List, [], ◌∷◌, ◌++◌, drop, filter, is_none}
 use Rattle.std.specs.List.{list_any}
 use Rattle.q_value.specs.declared.value.Value.{Value}
 use Rattle.row_versions.specs.declared.slot.Version.{Version}
@@ -49,3 +49,9 @@ is_needed snaps version = list_any (is_shown version) snaps
 -- the versions that one of the snapshots shows
 abbrev pub kept : List ℕ → List Version → List Version
 kept snaps versions = filter (is_needed snaps) versions
+
+-- there is no version but a live one
+abbrev pub is_settled : List Version → Bool
+is_settled [] = true
+is_settled (version ∷ []) = is_none version.until
+is_settled (version ∷ next ∷ versions) = false

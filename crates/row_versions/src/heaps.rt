@@ -1,9 +1,13 @@
+ghost use Rattle.std.specs.Prelude.{◌≡◌, ◌<◌, ◌≤◌, ◌+◌, ◌∷◌, [], ◌++◌, ◌^◌, OnOk, IfOk, length};
+ghost use Rattle.std.specs.Option.{option_copied};
+
 use crate::slot::{Deed, Slot};
 use crate::snaps::{HeapMark, Pin, Snap};
 use crate::tables::{Place, Tables};
 use q_base::{Code, NoMemory, ObjId, SlotId, Stop, refusal};
 use q_value::Row;
 use std::alloc::Global;
+use std::marker::Model;
 
 /// The most rows that may be live at once, those of all tables together.
 const MOST_LIVE_ROWS: u32 = 1_048_576;
@@ -31,9 +35,25 @@ pub struct Heaps {
     stale: Vec<Place>,
 }
 
+impl Model for Heaps {
+    ghost use Rattle.std.specs.Prelude.{reverse};
+    ghost use Rattle.row_versions.specs.Sound.{IsSound};
+    ghost use Rattle.row_versions.specs.State.{State};
+
+    ghost Value = { State };
+
+    ghost view = { λ h. record { tables = h.tables; newest = h.moment; pins = h.pins.items; log = reverse h.log.items } };
+
+    ghost invariant = { λ h. IsSound h.tables h.moment h.live h.pins.items (reverse h.log.items) h.stale.items };
+}
+
 impl Heaps {
+    ghost use Rattle.row_versions.specs.State.{shown, rows, rows_from, KeepsRows};
+
     /// No tables.
-    pub fn new(alloc: Global) -> Result<Heaps, NoMemory> {
+    pub fn new(alloc: Global) -> Result<Heaps, NoMemory>
+        ensures { IfOk result (λ heaps. heaps ≡ record { tables = []; newest = 0; pins = []; log = [] }) }
+    {
         Ok(Heaps {
             alloc,
             tables: Tables::new(alloc),
@@ -51,7 +71,9 @@ impl Heaps {
     }
 
     /// The row that a slot shows at a snapshot.
-    pub fn visible(&self, table: ObjId, slot: SlotId, snap: Snap) -> Option<&Row> {
+    pub fn visible(&self, table: ObjId, slot: SlotId, snap: Snap) -> Option<&Row>
+        ensures { option_copied result ≡ shown self.now table slot.0 snap }
+    {
         let table = self.tables.find(table)?;
         let slot = slot.0 as usize;
         self.tables.get(table)?.get(slot)?.shown(snap.moment)
@@ -72,7 +94,11 @@ impl Heaps {
     }
 
     /// The newest snapshot. Later changes are not shown by it.
-    pub fn advance(&mut self) -> Snap {
+    pub fn advance(&mut self) -> Snap
+        requires { self.old.newest < 2 ^ 62 }
+        ensures snap { result ≡ self.old.newest }
+        ensures newest { self.new ≡ record self.old { newest = self.old.newest + 1 } }
+    {
         let snap = Snap {
             moment: self.moment,
         };

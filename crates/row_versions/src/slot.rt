@@ -1,4 +1,4 @@
-ghost use Rattle.std.specs.Prelude.{◌≡◌, ◌≤◌, ◌∷◌, [], ◌++◌, ◌||◌, reverse, OnOk, OnErr, slice_get, IsTrue, ◌↔◌, All, None};
+ghost use Rattle.std.specs.Prelude.{◌≡◌, ◌≤◌, ◌∷◌, [], ◌++◌, ◌||◌, reverse, OnOk, OnErr, slice_get, None};
 ghost use Rattle.std.specs.Option.{option_copied, option_map};
 ghost use Rattle.std.specs.List.{list_any};
 ghost use Rattle.row_versions.specs.Versions.{is_open, is_shown, is_needed, kept};
@@ -80,7 +80,7 @@ impl Model for Slot {
 }
 
 impl Slot {
-    ghost use Rattle.row_versions.specs.Versions.{shown_in, with_version, superseded, ended, taken_back};
+    ghost use Rattle.row_versions.specs.Versions.{shown_in, with_version, superseded, ended, taken_back, is_settled};
 
     /// A slot without versions, which takes no memory.
     pub fn empty(alloc: Global) -> Slot
@@ -140,7 +140,7 @@ impl Slot {
 
     /// Whether there is no version but a live one.
     pub fn is_settled(&self) -> bool
-        ensures { IsTrue result → All (λ version. version.until ≡ None) self.now }
+        ensures { result ≡ is_settled self.now }
     {
         self.older.is_empty()
             && match &self.newest {
