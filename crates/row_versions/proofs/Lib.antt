@@ -3,8 +3,11 @@ mod Histories
 mod Kept
 mod Live
 mod Logs
+mod Made
+mod Marks
 mod Places
 mod Positions
+mod Replaced
 mod Rows
 mod Shown
 mod Sounds

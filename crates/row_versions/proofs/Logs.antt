@@ -27,22 +27,24 @@ before_padded change tables n = in_place_padded (taken_back change.deed) tables 
 -- the changes lead to the tables with one more slot that is empty, too
 pub IsLog-padded : (moment n : ℕ) (tables : List Stored) (log : List Change) → IsLog moment tables log → IsLog moment (with_slot n [] tables) log
 IsLog-padded moment n tables [] h = tt
-IsLog-padded moment n tables (change ∷ log) h =
-    (h.0,
-     subst (IsLast change) (sym (versions_in_padded tables n change.place.table change.place.slot)) h.1,
-     subst (λ (t : List Stored). live_of t ≤ 1048576) (sym (before_padded change tables n)) (subst (λ k. k ≤ 1048576) (sym (live_of-padded (before change tables) n)) h.2),
-     subst (λ (t : List Stored). IsLog change.moment t log) (sym (before_padded change tables n)) (IsLog-padded change.moment n (before change tables) log h.3))
+IsLog-padded moment n tables (change ∷ log) h = (
+  h.0,
+  subst (IsLast change) (sym (versions_in_padded tables n change.place.table change.place.slot)) h.1,
+  subst (λ (t : List Stored). live_of t ≤ 1048576) (sym (before_padded change tables n)) (subst (λ k. k ≤ 1048576) (sym (live_of-padded (before change tables) n)) h.2),
+  subst (λ (t : List Stored). IsLog change.moment t log) (sym (before_padded change tables n)) (IsLog-padded change.moment n (before change tables) log h.3),
+)
 
 before_joined : (change : Change) (tables : List Stored) (id : ObjId) → before change (tables ++ record { id = id; slots = [] } ∷ []) ≡ before change tables ++ record { id = id; slots = [] } ∷ []
 before_joined change tables id = in_place_joined (taken_back change.deed) tables id change.place.table change.place.slot
 
 pub IsLog-joined : (moment : ℕ) (tables : List Stored) (id : ObjId) (log : List Change) → IsLog moment tables log → IsLog moment (tables ++ record { id = id; slots = [] } ∷ []) log
 IsLog-joined moment tables id [] h = tt
-IsLog-joined moment tables id (change ∷ log) h =
-    (h.0,
-     subst (λ (slots : List (List Version)). IsLast change (get_or slots change.place.slot [])) (sym (slots_at_joined tables id change.place.table)) h.1,
-     subst (λ (t : List Stored). live_of t ≤ 1048576) (sym (before_joined change tables id)) (subst (λ k. k ≤ 1048576) (sym (live_of-joined (before change tables) id)) h.2),
-     subst (λ (t : List Stored). IsLog change.moment t log) (sym (before_joined change tables id)) (IsLog-joined change.moment (before change tables) id log h.3))
+IsLog-joined moment tables id (change ∷ log) h = (
+  h.0,
+  subst (λ (slots : List (List Version)). IsLast change (get_or slots change.place.slot [])) (sym (slots_at_joined tables id change.place.table)) h.1,
+  subst (λ (t : List Stored). live_of t ≤ 1048576) (sym (before_joined change tables id)) (subst (λ k. k ≤ 1048576) (sym (live_of-joined (before change tables) id)) h.2),
+  subst (λ (t : List Stored). IsLog change.moment t log) (sym (before_joined change tables id)) (IsLog-joined change.moment (before change tables) id log h.3),
+)
 
 -- one more change
 pub IsLog-more : (change : Change) (old new : List Stored) (log : List Change) → IsLast change (versions_in change.place new) → before change new ≡ old → live_of old ≤ 1048576 → IsLog change.moment old log → IsLog change.moment new (change ∷ log)
@@ -116,18 +118,18 @@ pub last_superseded : (row : List Value) (moment : ℕ) (place : Place) (old ver
 last_superseded row moment place old versions live e =
     subst (IsLast (record { place = place; deed = Superseded; moment = moment })) (sym e)
     (record {
-        after = refl;
-        earlier = ap is_live (taken_back_ended moment old live) ∙ live;
-        older = λ snap lt. ap (λ v. shown_in v snap) (taken_back_ended moment old live) ∙ sym (shown_in_new row moment snap (ended moment old) lt ∙ shown_in_ended moment snap old live lt)
+      after = refl;
+      earlier = ap is_live (taken_back_ended moment old live) ∙ live;
+      older = λ snap lt. ap (λ v. shown_in v snap) (taken_back_ended moment old live) ∙ sym (shown_in_new row moment snap (ended moment old) lt ∙ shown_in_ended moment snap old live lt);
     })
 
 pub last_ended : (moment : ℕ) (place : Place) (old versions : List Version) → is_live old ≡ true → versions ≡ ended moment old → IsLast (record { place = place; deed = Ended; moment = moment }) versions
 last_ended moment place old versions live e =
     subst (IsLast (record { place = place; deed = Ended; moment = moment })) (sym e)
     (record {
-        after = not_live old;
-        earlier = ap is_live (taken_back_ended moment old live) ∙ live;
-        older = λ snap lt. ap (λ v. shown_in v snap) (taken_back_ended moment old live) ∙ sym (shown_in_ended moment snap old live lt)
+      after = not_live old;
+      earlier = ap is_live (taken_back_ended moment old live) ∙ live;
+      older = λ snap lt. ap (λ v. shown_in v snap) (taken_back_ended moment old live) ∙ sym (shown_in_ended moment snap old live lt);
     })
   where
     not_live : (old : List Version) → is_live (ended moment old) ≡ false

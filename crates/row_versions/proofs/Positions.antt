@@ -60,3 +60,12 @@ position_of-set (t ∷ tables) zero x y id h at e =
     ap (λ (i : ObjId). cond (eqb i.0 id) (Some 0) (option_map (λ n. suc n) (position_of id tables))) (e ∙ ap (λ (u : Stored). u.id) at)
 position_of-set (t ∷ tables) (suc n) x y id h at e =
     ap (λ o. cond (eqb t.id.0 id) (Some 0) (option_map (λ n. suc n) o)) (position_of-set tables n x y id (omega arith) at e)
+
+pub position_below : (tables : List Stored) (id place : ℕ) → position_of id tables ≡ Some place → place < length tables
+position_below [] id place e = cc
+position_below (t ∷ tables) id place e = go (eqb t.id.0 id) (position_of id tables) place (λ n. position_below tables id n) e
+  where
+    go : (b : Bool) (o : Option ℕ) (place : ℕ) → ((n : ℕ) → o ≡ Some n → n < length tables) → cond b (Some 0) (option_map (λ n. suc n) o) ≡ Some place → place < suc (length tables)
+    go true o place more e = let h : 0 ≡ place = cc in omega arith
+    go false None place more e = cc
+    go false (Some n) place more e = let h : suc n ≡ place = cc in omega (arith, more n refl)

@@ -4,7 +4,7 @@ use Rattle.q_base.specs.declared.ids.ObjId.{ObjId}
 use Rattle.q_value.specs.declared.value.Value.{Value}
 use Rattle.row_versions.specs.declared.slot.Version.{Version}
 use Rattle.row_versions.specs.Versions.{shown_in}
-use Rattle.row_versions.specs.Stored.{Stored, changed, with_row, rows_in, position_of, slots_at, slots_of}
+use Rattle.row_versions.specs.Stored.{Stored, changed, with_row, with_slot, rows_in, position_of, slots_at, slots_of}
 
 -- a change that the snapshot does not see leaves the rows that it shows
 pub rows_in-changed : (f : List Version → List Version) (slots : List (List Version)) (n k snap : ℕ) → shown_in (f (get_or slots n [])) snap ≡ shown_in (get_or slots n []) snap → rows_in k (changed n f slots) snap ≡ rows_in k slots snap
@@ -41,3 +41,11 @@ same_rows old new id before after places h =
     go : (o : Option ℕ) → rows_in 0 (option_map_or (λ t. slots_at t new) o []) after ≡ rows_in 0 (option_map_or (λ t. slots_at t old) o []) before
     go None = refl
     go (Some t) = h t
+
+-- a new slot that shows nothing leaves the rows of every table
+pub rows_padded : (versions : List Version) (tables : List Stored) (n t snap : ℕ) → shown_in versions snap ≡ None → rows_in 0 (slots_at t (with_slot n versions tables)) snap ≡ rows_in 0 (slots_at t tables) snap
+rows_padded versions [] n t snap h = refl
+rows_padded versions (u ∷ tables) zero zero snap h = rows_in-padded versions u.slots 0 snap h
+rows_padded versions (u ∷ tables) zero (suc t) snap h = refl
+rows_padded versions (u ∷ tables) (suc n) zero snap h = refl
+rows_padded versions (u ∷ tables) (suc n) (suc t) snap h = rows_padded versions tables n t snap h

@@ -1,10 +1,12 @@
-use Rattle.std.specs.Prelude.{ℕ, ◌-◌, ◌<◌, ◌≤◌, ◌≡◌, Bool, true, false, Option, List, [], ◌∷◌, length, take, drop, suc, zero, All, slice_index_or, IsSome}
+use Rattle.std.specs.Prelude.{ℕ, ◌-◌, ◌<◌, ◌≤◌, ◌≡◌, ◌==◌, Bool, not, if◌then◌else◌, Option, Some, List, [], ◌∷◌, ◌++◌, length, take, drop, map, filter, sum_by, suc, zero, All, Contains, slice_index_or, IsSome}
 use Rattle.q_base.specs.declared.ids.ObjId.{ObjId}
 use Rattle.q_value.specs.declared.value.Value.{Value}
 use Rattle.row_versions.specs.declared.heaps.Change.{Change}
+use Rattle.row_versions.specs.declared.slot.Deed.TheVariants.{Inserted, Superseded, Ended}
 use Rattle.row_versions.specs.declared.snaps.HeapMark.{HeapMark}
-use Rattle.row_versions.specs.Versions.{shown_in, taken_back}
-use Rattle.row_versions.specs.Stored.{Stored, slots_of, rows_in, in_place, position_of}
+use Rattle.row_versions.specs.declared.tables.Place.{Place}
+use Rattle.row_versions.specs.Versions.{shown_in, with_version, superseded, ended, taken_back}
+use Rattle.row_versions.specs.Stored.{Stored, slots_of, rows_in, with_slot, in_place, position_of}
 
 -- what the heaps hold: the tables in the order in which they were added, the number of the newest
 -- snapshot, the snapshots that are pinned, and the changes that can be taken back, the last first
@@ -62,3 +64,64 @@ rows_at state mark table = rows (at_mark state mark) table state.newest
 pub record KeepsMark (old new : State) (mark : HeapMark) : Type 0 where
   pub stands : Stands new mark
   pub names : (table : ObjId) → rows_at new mark table ≡ rows_at old mark table
+
+-- each pinned snapshot shows what it showed
+abbrev pub KeepsPinned : State → State → Type 0
+KeepsPinned old new = (snap : ℕ) → Contains old.pins snap → KeepsRows old new snap
+
+-- each mark goes on standing
+abbrev pub KeepsMarks : State → State → Type 0
+KeepsMarks old new = (mark : HeapMark) → Stands old mark → KeepsMark old new mark
+
+-- the table was added
+abbrev pub IsAdded : State → ObjId → Type 0
+IsAdded state table = IsSome (position_of table.0 state.tables)
+
+-- how many rows the tables show at the newest snapshot
+abbrev pub live_rows : State → ℕ
+live_rows state = sum_by (λ (table : Stored). length (rows_in 0 table.slots state.newest)) state.tables
+
+-- the rows with another one at a slot
+abbrev pub replaced : ℕ → List Value → List (ℕ × List Value) → List (ℕ × List Value)
+replaced slot row rows = map (λ (old : ℕ × List Value). if old.0 == slot then (slot, row) else old) rows
+
+-- the rows without that of a slot
+abbrev pub without : ℕ → List (ℕ × List Value) → List (ℕ × List Value)
+without slot rows = filter (λ (old : ℕ × List Value). not (old.0 == slot)) rows
+
+-- the change is the newest to be taken back, and the tables are those after it
+pub record Changes (change : Change) (table : ObjId) (after : List Stored) (old new : State) : Type 0 where
+  pub added : position_of table.0 old.tables ≡ Some change.place.table
+  pub moment : change.moment ≡ old.newest
+  pub state : new ≡ record old { tables = after; log = change ∷ old.log }
+  pub others : (other : ObjId) → (other.0 ≡ table.0 → ⊥) → (snap : ℕ) → rows new other snap ≡ rows old other snap
+  pub older : (snap : ℕ) → snap < old.newest → KeepsRows old new snap
+  pub pinned : KeepsPinned old new
+  pub marks : KeepsMarks old new
+
+-- a row was put into a new slot, after those of the table
+pub record Inserts (table : ObjId) (slot : ℕ) (row : List Value) (old new : State) : Type 0 where
+  pub place : Place
+  pub slot_is : place.slot ≡ slot
+  pub next : slot ≡ length (slots_of table old.tables)
+  pub changes : Changes (record { place = place; deed = Inserted; moment = old.newest }) table (with_slot place.table (with_version row old.newest []) old.tables) old new
+  pub shows : rows new table new.newest ≡ rows old table old.newest ++ (slot, row) ∷ []
+
+-- the row of a slot was replaced
+pub record Supersedes (table : ObjId) (slot : ℕ) (row : List Value) (old new : State) : Type 0 where
+  pub place : Place
+  pub slot_is : place.slot ≡ slot
+  pub changes : Changes (record { place = place; deed = Superseded; moment = old.newest }) table (in_place place (superseded row old.newest) old.tables) old new
+  pub shows : rows new table new.newest ≡ replaced slot row (rows old table old.newest)
+
+-- the row of a slot was deleted
+pub record Ends (table : ObjId) (slot : ℕ) (old new : State) : Type 0 where
+  pub place : Place
+  pub slot_is : place.slot ≡ slot
+  pub changes : Changes (record { place = place; deed = Ended; moment = old.newest }) table (in_place place (ended old.newest) old.tables) old new
+  pub shows : rows new table new.newest ≡ without slot (rows old table old.newest)
+
+-- the pins without one of a snapshot
+abbrev pub unpinned : ℕ → List ℕ → List ℕ
+unpinned snap [] = []
+unpinned snap (pin ∷ pins) = if pin == snap then pins else pin ∷ unpinned snap pins

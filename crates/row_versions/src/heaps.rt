@@ -1,5 +1,10 @@
-ghost use Rattle.std.specs.Prelude.{◌≡◌, ◌<◌, ◌≤◌, ◌+◌, ◌∷◌, [], ◌++◌, ◌^◌, OnOk, IfOk, length};
-ghost use Rattle.std.specs.Option.{option_copied};
+ghost use Rattle.std.specs.Prelude.{◌≡◌, ℕ, ◌<◌, ◌≤◌, ◌+◌, ◌∷◌, [], ◌++◌, ◌^◌, OnOk, IfOk, MatchResult, MatchOption, IsSome, All, Contains, length, drop, reverse, slice_get, slice_index_or};
+ghost use Rattle.std.specs.Option.{option_copied, option_map};
+ghost use Rattle.q_base.specs.declared.ids.ObjId.{ObjId as Id};
+ghost use Rattle.q_base.specs.declared.code.Code.TheVariants.{LimitExceeded};
+ghost use Rattle.q_base.specs.declared.errors.Stop.TheVariants.{Sql};
+ghost use Rattle.q_base.specs.Stops.{StopsBy};
+ghost use Rattle.row_versions.specs.Stored.{with_table, slots_of, pruned};
 
 use crate::slot::{Deed, Slot};
 use crate::snaps::{HeapMark, Pin, Snap};
@@ -48,7 +53,7 @@ impl Model for Heaps {
 }
 
 impl Heaps {
-    ghost use Rattle.row_versions.specs.State.{shown, rows, rows_from, KeepsRows};
+    ghost use Rattle.row_versions.specs.State.{shown, rows, rows_from, live_rows, IsAdded, KeepsRows, KeepsPinned, KeepsMark, KeepsMarks, Stands, at_mark, rows_at, Inserts, Supersedes, Ends, unpinned};
 
     /// No tables.
     pub fn new(alloc: Global) -> Result<Heaps, NoMemory>
@@ -66,7 +71,12 @@ impl Heaps {
     }
 
     /// Adds a table without rows, unless it is there. A rollback leaves it there.
-    pub fn add_table(&mut self, table: ObjId) -> Result<(), NoMemory> {
+    pub fn add_table(&mut self, table: ObjId) -> Result<(), NoMemory>
+        ensures state { OnOk result (self.new ≡ record self.old { tables = with_table table self.old.tables }) }
+        ensures added { OnOk result (IsAdded self.new table) }
+        ensures rows { OnOk result ((snap : ℕ) → KeepsRows self.old self.new snap) }
+        ensures marks { OnOk result (KeepsMarks self.old self.new) }
+    {
         self.tables.add(self.alloc, table)
     }
 
@@ -87,7 +97,9 @@ impl Heaps {
     }
 
     /// The row of a slot's kept version, counted from 0 at the oldest.
-    pub fn version(&self, table: ObjId, slot: SlotId, at: usize) -> Option<&Row> {
+    pub fn version(&self, table: ObjId, slot: SlotId, at: usize) -> Option<&Row>
+        ensures { option_copied result ≡ option_map (λ version. version.row) (slice_get (reverse (slice_index_or (slots_of table self.now.tables) slot.0 [])) at) }
+    {
         let table = self.tables.find(table)?;
         let slot = slot.0 as usize;
         self.tables.get(table)?.get(slot)?.version(at)
@@ -97,7 +109,9 @@ impl Heaps {
     pub fn advance(&mut self) -> Snap
         requires { self.old.newest < 2 ^ 62 }
         ensures snap { result ≡ self.old.newest }
-        ensures newest { self.new ≡ record self.old { newest = self.old.newest + 1 } }
+        ensures state { self.new ≡ record self.old { newest = self.old.newest + 1 } }
+        ensures newest { (table : Id) → rows self.new table self.new.newest ≡ rows self.old table self.old.newest }
+        ensures marks { KeepsMarks self.old self.new }
     {
         let snap = Snap {
             moment: self.moment,
@@ -106,8 +120,16 @@ impl Heaps {
         snap
     }
 
-    /// Inserts a row into a slot of its own, after all others of the table.
-    pub fn insert(&mut self, table: ObjId, row: Row) -> Result<SlotId, Stop> {
+    /// Inserts a row into a slot of its own, after all others of the table. Refused where 2^20 rows
+    /// of all tables together are live.
+    pub fn insert(&mut self, table: ObjId, row: Row) -> Result<SlotId, Stop>
+        requires added { IsAdded self.old table }
+        requires few { length (slots_of table self.old.tables) < 2 ^ 62 }
+        ensures cases { MatchResult result
+            (λ slot. (live_rows self.old < 2 ^ 20) × Inserts table slot.0 row self.old self.new)
+            (StopsBy (λ e. (e ≡ record { code = LimitExceeded; args = [] }) × (2 ^ 20 ≤ live_rows self.old) × (self.new ≡ self.old))) }
+        ensures full { 2 ^ 20 ≤ live_rows self.old → result ≡ Err (Sql (record { code = LimitExceeded; args = [] })) }
+    {
         if MOST_LIVE_ROWS <= self.live {
             return Err(refusal(self.alloc, Code::LimitExceeded));
         }
@@ -131,7 +153,10 @@ impl Heaps {
     }
 
     /// Puts a newer version of a row into its slot.
-    pub fn supersede(&mut self, table: ObjId, slot: SlotId, row: Row) -> Result<(), NoMemory> {
+    pub fn supersede(&mut self, table: ObjId, slot: SlotId, row: Row) -> Result<(), NoMemory>
+        requires { IsSome (shown self.old table slot.0 self.old.newest) }
+        ensures { OnOk result (Supersedes table slot.0 row self.old self.new) }
+    {
         let Some(table) = self.tables.find(table) else {
             unreachable!()
         };
@@ -156,7 +181,10 @@ impl Heaps {
     }
 
     /// Deletes the row of a slot.
-    pub fn end(&mut self, table: ObjId, slot: SlotId) -> Result<(), NoMemory> {
+    pub fn end(&mut self, table: ObjId, slot: SlotId) -> Result<(), NoMemory>
+        requires { IsSome (shown self.old table slot.0 self.old.newest) }
+        ensures { OnOk result (Ends table slot.0 self.old self.new) }
+    {
         let Some(table) = self.tables.find(table) else {
             unreachable!()
         };
@@ -180,7 +208,10 @@ impl Heaps {
     }
 
     /// Holds what a snapshot shows until the pin is handed back.
-    pub fn pin(&mut self, snap: Snap) -> Result<Pin, NoMemory> {
+    pub fn pin(&mut self, snap: Snap) -> Result<Pin, NoMemory>
+        requires { snap < self.old.newest }
+        ensures { IfOk result (λ pin. (pin ≡ snap) × (self.new ≡ record self.old { pins = self.old.pins ++ snap ∷ [] })) }
+    {
         self.pins.push(snap.moment)?;
         Ok(Pin {
             moment: snap.moment,
@@ -188,14 +219,21 @@ impl Heaps {
     }
 
     /// Ends a pin.
-    pub fn unpin(&mut self, pin: Pin) {
+    pub fn unpin(&mut self, pin: Pin)
+        requires { Contains self.old.pins pin }
+        ensures { self.new ≡ record self.old { pins = unpinned pin self.old.pins } }
+    {
         if let Some(at) = self.pins.iter().position(|held| *held == pin.moment) {
             let _ = self.pins.remove(at);
         }
     }
 
     /// Names the state of now.
-    pub fn mark(&self) -> HeapMark {
+    pub fn mark(&self) -> HeapMark
+        ensures mark { result ≡ record { changes = length self.now.log; moment = self.now.newest } }
+        ensures stands { Stands self.now result }
+        ensures names { (table : Id) → rows_at self.now result table ≡ rows self.now table self.now.newest }
+    {
         HeapMark {
             changes: self.log.len(),
             moment: self.moment,
@@ -203,7 +241,16 @@ impl Heaps {
     }
 
     /// Takes back the changes since the mark. Slots that were given since are not given again.
-    pub fn rollback_to(&mut self, mark: HeapMark) {
+    pub fn rollback_to(&mut self, mark: HeapMark)
+        requires stands { Stands self.old mark }
+        requires pins { All (λ pin. pin < mark.moment) self.old.pins }
+        ensures state { self.new ≡ at_mark self.old mark }
+        ensures newest { (table : Id) → rows self.new table self.new.newest ≡ rows_at self.old mark table }
+        ensures slots { (table : Id) → length (slots_of table self.new.tables) ≡ length (slots_of table self.old.tables) }
+        ensures older { (snap : ℕ) → snap < mark.moment → KeepsRows self.old self.new snap }
+        ensures pinned { KeepsPinned self.old self.new }
+        ensures marks { (earlier : HeapMark) → earlier.changes ≤ mark.changes → Stands self.old earlier → KeepsMark self.old self.new earlier }
+    {
         while mark.changes < self.log.len() {
             self.take_back_last();
         }
@@ -223,12 +270,19 @@ impl Heaps {
     }
 
     /// Keeps the changes for good, as COMMIT does.
-    pub fn forget(&mut self) {
+    pub fn forget(&mut self)
+        ensures { self.new ≡ record self.old { log = [] } }
+    {
         self.log.clear();
     }
 
     /// Drops the versions that neither the newest snapshot nor a pinned one shows.
-    pub fn prune(&mut self) {
+    pub fn prune(&mut self)
+        requires { self.old.log ≡ [] }
+        ensures state { self.new ≡ record self.old { tables = pruned (self.old.newest ∷ self.old.pins) self.old.tables } }
+        ensures shows { (snap : ℕ) → Contains (self.old.newest ∷ self.old.pins) snap → KeepsRows self.old self.new snap }
+        ensures marks { KeepsMarks self.old self.new }
+    {
         prune_stale(
             self.alloc,
             &mut self.tables,

@@ -1,5 +1,6 @@
 use Rattle.std.proofs.Common.{reverse}
 use Rattle.row_versions.proofs.Sounds.{sound_advanced}
+use Rattle.row_versions.proofs.Made.{ends_made}
 use Rattle.row_versions.proofs.heaps.Heaps.advance.Goals as goal
 
 pub invariant_of-self : goal.invariant_of-self
