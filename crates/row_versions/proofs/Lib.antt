@@ -5,9 +5,11 @@ mod Live
 mod Logs
 mod Made
 mod Marks
+mod Next
 mod Places
 mod Positions
 mod Replaced
 mod Rows
 mod Shown
 mod Sounds
+mod Steps

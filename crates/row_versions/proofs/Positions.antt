@@ -1,6 +1,6 @@
 use Rattle.std.proofs.Common.{◌≡◌, ℕ, ◌<◌, ◌≤◌, Bool, true, false, cond, eqb, Option, Some, None, List, [], ◌∷◌, ◌++◌, length, get_or, set, suc, zero, refl, sym, ap, ◌∙◌, arith}
-use Rattle.std.specs.Option.{option_map}
-use Rattle.std.specs.Prelude.{is_some}
+use Rattle.std.specs.Option.{option_map, option_map_or}
+use Rattle.std.specs.Prelude.{is_some, slice_get}
 use Rattle.std.proofs.lemmas.Bool.Decides.{Decides-eqb}
 use Rattle.q_base.specs.declared.ids.ObjId.{ObjId}
 use Rattle.row_versions.specs.Stored.{Stored, position_of, slots_at}
@@ -69,3 +69,8 @@ position_below (t ∷ tables) id place e = go (eqb t.id.0 id) (position_of id ta
     go true o place more e = let h : 0 ≡ place = cc in omega arith
     go false None place more e = cc
     go false (Some n) place more e = let h : suc n ≡ place = cc in omega (arith, more n refl)
+
+pub slots_at_get : (tables : List Stored) (n : ℕ) → slots_at n tables ≡ option_map_or (λ (table : Stored). table.slots) (slice_get tables n) []
+slots_at_get [] n = refl
+slots_at_get (t ∷ tables) zero = refl
+slots_at_get (t ∷ tables) (suc n) = slots_at_get tables n

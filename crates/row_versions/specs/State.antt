@@ -1,9 +1,11 @@
-use Rattle.std.specs.Prelude.{ℕ, ◌-◌, ◌<◌, ◌≤◌, ◌≡◌, ◌==◌, Bool, not, if◌then◌else◌, Option, Some, List, [], ◌∷◌, ◌++◌, length, take, drop, map, filter, sum_by, suc, zero, All, Contains, slice_index_or, IsSome}
+use Rattle.std.specs.Prelude.{ℕ, ◌+◌, ◌-◌, ◌<◌, ◌≤◌, ◌≡◌, ◌==◌, Bool, not, if◌then◌else◌, Option, None, Some, List, [], ◌∷◌, ◌++◌, length, take, drop, map, filter, sum_by, suc, zero, All, Contains, slice_index_or, slice_get, reverse, IsSome}
+use Rattle.std.specs.Option.{option_map}
 use Rattle.q_base.specs.declared.ids.ObjId.{ObjId}
 use Rattle.q_value.specs.declared.value.Value.{Value}
 use Rattle.row_versions.specs.declared.heaps.Change.{Change}
 use Rattle.row_versions.specs.declared.slot.Deed.TheVariants.{Inserted, Superseded, Ended}
 use Rattle.row_versions.specs.declared.snaps.HeapMark.{HeapMark}
+use Rattle.row_versions.specs.declared.slot.Version.{Version}
 use Rattle.row_versions.specs.declared.tables.Place.{Place}
 use Rattle.row_versions.specs.Versions.{shown_in, with_version, superseded, ended, taken_back}
 use Rattle.row_versions.specs.Stored.{Stored, slots_of, rows_in, with_slot, in_place, position_of}
@@ -19,6 +21,10 @@ pub record State : Type 0 where
 -- the row that a slot shows at a snapshot
 abbrev pub shown : State → ObjId → ℕ → ℕ → Option (List Value)
 shown state table slot snap = shown_in (slice_index_or (slots_of table state.tables) slot []) snap
+
+-- the row of a version that a slot keeps, counted from 0 at the oldest
+abbrev pub kept_version : State → ObjId → ℕ → ℕ → Option (List Value)
+kept_version state table slot at = option_map (λ (version : Version). version.row) (slice_get (reverse (slice_index_or (slots_of table state.tables) slot [])) at)
 
 -- the rows that a table shows at a snapshot from a slot on, in the order of insertion
 abbrev pub rows_from : State → ObjId → ℕ → ℕ → List (ℕ × List Value)
@@ -41,6 +47,14 @@ abbrev pub undone : ℕ → List Stored → List Change → List Stored
 undone zero tables log = tables
 undone (suc n) tables [] = tables
 undone (suc n) tables (change ∷ log) = undone n (before change tables) log
+
+abbrev pub state_before : State → List Change → State
+state_before state [] = state
+state_before state (change ∷ log) = record state { tables = before change state.tables; log = log }
+
+-- the state before the last change
+abbrev pub last_undone : State → State
+last_undone state = state_before state state.log
 
 -- how many changes were made since a mark
 abbrev pub since : State → HeapMark → ℕ
@@ -125,3 +139,16 @@ pub record Ends (table : ObjId) (slot : ℕ) (old new : State) : Type 0 where
 abbrev pub unpinned : ℕ → List ℕ → List ℕ
 unpinned snap [] = []
 unpinned snap (pin ∷ pins) = if pin == snap then pins else pin ∷ unpinned snap pins
+
+-- no slot from there on shows a row
+pub record IsLastRow (state : State) (table : ObjId) (from snap : ℕ) : Type 0 where
+  pub none : (slot : ℕ) → from ≤ slot → shown state table slot snap ≡ None
+  pub rest : rows_from state table from snap ≡ []
+
+-- the slot is the least from there on that shows a row
+pub record IsNextRow (state : State) (table : ObjId) (from snap slot : ℕ) : Type 0 where
+  pub within : from ≤ slot
+  pub row : List Value
+  pub shows : shown state table slot snap ≡ Some row
+  pub between : (earlier : ℕ) → from ≤ earlier → earlier < slot → shown state table earlier snap ≡ None
+  pub rest : rows_from state table from snap ≡ (slot, row) ∷ rows_from state table (slot + 1) snap

@@ -1,10 +1,13 @@
-ghost use Rattle.std.specs.Prelude.{◌≡◌, ℕ, ◌<◌, ◌≤◌, ◌+◌, ◌∷◌, [], ◌++◌, ◌^◌, OnOk, IfOk, MatchResult, MatchOption, IsSome, All, Contains, length, drop, reverse, slice_get, slice_index_or};
+ghost use Rattle.std.specs.Prelude.{◌≡◌, ℕ, ◌<◌, ◌≤◌, ◌+◌, ◌∷◌, [], ◌++◌, ◌^◌, ◌⊎◌, true, OnOk, IfOk, MatchResult, MatchOption, IsSome, All, Contains, length, drop, reverse, slice_get, slice_index_or};
 ghost use Rattle.std.specs.Option.{option_copied, option_map};
 ghost use Rattle.q_base.specs.declared.ids.ObjId.{ObjId as Id};
 ghost use Rattle.q_base.specs.declared.code.Code.TheVariants.{LimitExceeded};
 ghost use Rattle.q_base.specs.declared.errors.Stop.TheVariants.{Sql};
 ghost use Rattle.q_base.specs.Stops.{StopsBy};
-ghost use Rattle.row_versions.specs.Stored.{with_table, slots_of, pruned};
+ghost use Rattle.row_versions.specs.Stored.{with_table, first_of, slots_of, versions_in, pruned};
+ghost use Rattle.row_versions.specs.Sound.{IsHistory};
+ghost use Rattle.row_versions.specs.Versions.{is_settled};
+ghost use Rattle.row_versions.specs.declared.tables.Place.{Place as Slots};
 
 use crate::slot::{Deed, Slot};
 use crate::snaps::{HeapMark, Pin, Snap};
@@ -53,7 +56,7 @@ impl Model for Heaps {
 }
 
 impl Heaps {
-    ghost use Rattle.row_versions.specs.State.{shown, rows, rows_from, live_rows, IsAdded, KeepsRows, KeepsPinned, KeepsMark, KeepsMarks, Stands, at_mark, rows_at, Inserts, Supersedes, Ends, unpinned};
+    ghost use Rattle.row_versions.specs.State.{shown, rows, rows_from, live_rows, IsAdded, KeepsRows, KeepsPinned, KeepsMark, KeepsMarks, Stands, at_mark, rows_at, Inserts, Supersedes, Ends, unpinned, kept_version, last_undone, IsLastRow, IsNextRow};
 
     /// No tables.
     pub fn new(alloc: Global) -> Result<Heaps, NoMemory>
@@ -77,32 +80,39 @@ impl Heaps {
         ensures rows { OnOk result ((snap : ℕ) → KeepsRows self.old self.new snap) }
         ensures marks { OnOk result (KeepsMarks self.old self.new) }
     {
-        self.tables.add(self.alloc, table)
+        self.tables.add(self.alloc, table)?;
+        Ok(())
     }
 
     /// The row that a slot shows at a snapshot.
     pub fn visible(&self, table: ObjId, slot: SlotId, snap: Snap) -> Option<&Row>
         ensures { option_copied result ≡ shown self.now table slot.0 snap }
     {
-        let table = self.tables.find(table)?;
-        let slot = slot.0 as usize;
-        self.tables.get(table)?.get(slot)?.shown(snap.moment)
+        let slot = self.tables.slot_of(table, slot.0 as usize)?;
+        slot.shown(snap.moment)
     }
 
     /// The least slot not below `from` that shows a row at a snapshot.
-    pub fn next_slot(&self, table: ObjId, from: SlotId, snap: Snap) -> Option<SlotId> {
-        let heap = self.tables.get(self.tables.find(table)?)?;
-        let slot = heap.next_shown(from.0 as usize, snap.moment)?;
+    pub fn next_slot(&self, table: ObjId, from: SlotId, snap: Snap) -> Option<SlotId>
+        ensures { MatchOption result (IsLastRow self.now table from.0 snap) (λ slot. IsNextRow self.now table from.0 snap slot.0) }
+    {
+        let slot = self.first_from(table, from.0 as usize, snap.moment)?;
         Some(SlotId(slot as u64))
+    }
+
+    fn first_from(&self, table: ObjId, from: usize, moment: u64) -> Option<usize>
+        ensures { result ≡ first_of (rows_from self.now table from moment) }
+    {
+        let heap = self.tables.heap_of(table)?;
+        heap.next_shown(from, moment)
     }
 
     /// The row of a slot's kept version, counted from 0 at the oldest.
     pub fn version(&self, table: ObjId, slot: SlotId, at: usize) -> Option<&Row>
-        ensures { option_copied result ≡ option_map (λ version. version.row) (slice_get (reverse (slice_index_or (slots_of table self.now.tables) slot.0 [])) at) }
+        ensures { option_copied result ≡ kept_version self.now table slot.0 at }
     {
-        let table = self.tables.find(table)?;
-        let slot = slot.0 as usize;
-        self.tables.get(table)?.get(slot)?.version(at)
+        let slot = self.tables.slot_of(table, slot.0 as usize)?;
+        slot.version(at)
     }
 
     /// The newest snapshot. Later changes are not shown by it.
@@ -251,12 +261,20 @@ impl Heaps {
         ensures pinned { KeepsPinned self.old self.new }
         ensures marks { (earlier : HeapMark) → earlier.changes ≤ mark.changes → Stands self.old earlier → KeepsMark self.old self.new earlier }
     {
+        self.undo_to(mark);
+    }
+
+    fn undo_to(&mut self, mark: HeapMark)
+        ensures { self.new ≡ at_mark self.old mark }
+    {
         while mark.changes < self.log.len() {
-            self.take_back_last();
+            self.undo_last();
         }
     }
 
-    fn take_back_last(&mut self) {
+    fn undo_last(&mut self)
+        ensures { self.new ≡ last_undone self.old }
+    {
         if let Some(change) = self.log.pop() {
             let mut slot = self.tables.take(self.alloc, change.place);
             slot.take_back(change.deed);
@@ -293,25 +311,30 @@ impl Heaps {
     }
 }
 
-/// Prunes the slots of a list, and leaves in it those that still have a version that has ended.
+/// Prunes the slots of a list, which has each slot that is not settled, and leaves it so.
 fn prune_stale(
     alloc: Global,
     tables: &mut Tables,
     stale: &mut Vec<Place>,
     newest: u64,
     pins: &[u64],
-) {
-    let mut at = 0;
-    while at < stale.len() {
-        let place = stale[at];
+)
+    requires dated { (place : Slots) → IsHistory newest (versions_in place tables.old) }
+    requires listed { (place : Slots) → (is_settled (versions_in place tables.old) ≡ true) ⊎ Contains stale.old.items place }
+    ensures pruned { tables.new ≡ pruned (newest ∷ pins.now) tables.old }
+    ensures dated { (place : Slots) → IsHistory newest (versions_in place tables.new) }
+    ensures listed { (place : Slots) → (is_settled (versions_in place tables.new) ≡ true) ⊎ Contains stale.new.items place }
+{
+    let mut left = stale.len();
+    while 0 < left {
+        left -= 1;
+        let place = stale[left];
         let mut slot = tables.take(alloc, place);
         slot.prune(newest, pins);
         let is_settled = slot.is_settled();
         tables.put(place, slot);
         if is_settled {
-            let _ = stale.swap_remove(at);
-        } else {
-            at += 1;
+            let _ = stale.swap_remove(left);
         }
     }
 }

@@ -1,5 +1,5 @@
-ghost use Rattle.std.specs.Prelude.{◌≡◌, ◌∷◌, [], ◌++◌, OnOk, OnErr, if◌then◌else◌, is_some, slice_get};
-ghost use Rattle.std.specs.Option.{option_copied};
+ghost use Rattle.std.specs.Prelude.{◌≡◌, ◌∷◌, [], ◌++◌, OnOk, OnErr, if◌then◌else◌, is_some, slice_get, slice_index_or, unwrap_or};
+ghost use Rattle.std.specs.Option.{option_copied, option_map_or};
 
 use crate::heap::Heap;
 use crate::slot::Slot;
@@ -36,7 +36,7 @@ impl Model for Tables {
 }
 
 impl Tables {
-    ghost use Rattle.row_versions.specs.Stored.{position_of, with_table, with_slot, in_place, versions_in};
+    ghost use Rattle.row_versions.specs.Stored.{position_of, with_table, with_slot, in_place, versions_in, slots_of};
 
     pub fn new(alloc: Global) -> Tables
         ensures { result ≡ [] }
@@ -49,7 +49,8 @@ impl Tables {
 
     /// Adds a table without slots, unless it is there.
     pub fn add(&mut self, alloc: Global, id: ObjId) -> Result<(), NoMemory>
-        ensures { OnOk result (self.new ≡ with_table id self.old) }
+        ensures ok { OnOk result (self.new ≡ with_table id self.old) }
+        ensures err { OnErr result (self.new ≡ self.old) }
     {
         if self.find(id).is_some() {
             return Ok(());
@@ -71,6 +72,22 @@ impl Tables {
         ensures { option_copied result ≡ slice_get self.now table }
     {
         self.heaps.get(table)
+    }
+
+    /// The heap of a table.
+    pub fn heap_of(&self, id: ObjId) -> Option<&Heap>
+        ensures { slots_of id self.now ≡ option_map_or (λ heap. heap.slots) (option_copied result) [] }
+    {
+        let table = self.find(id)?;
+        self.get(table)
+    }
+
+    /// A slot of a table.
+    pub fn slot_of(&self, id: ObjId, at: usize) -> Option<&Slot>
+        ensures { slice_index_or (slots_of id self.now) at [] ≡ unwrap_or (option_copied result) [] }
+    {
+        let heap = self.heap_of(id)?;
+        heap.get(at)
     }
 
     /// Gives the next slot of a table.
