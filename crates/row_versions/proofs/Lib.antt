@@ -13,3 +13,4 @@ mod Rows
 mod Shown
 mod Sounds
 mod Steps
+mod Undone
