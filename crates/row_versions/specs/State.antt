@@ -66,9 +66,13 @@ pub record Stands (state : State) (mark : HeapMark) : Type 0 where
   pub made : mark.moment ≤ state.newest
   pub later : All (λ change. mark.moment ≤ change.moment) (take (since state mark) state.log)
 
+-- the state before some of the last changes
+abbrev pub back : ℕ → State → State
+back count state = record state { tables = undone count state.tables state.log; log = drop count state.log }
+
 -- the state that a mark names
 abbrev pub at_mark : State → HeapMark → State
-at_mark state mark = record state { tables = undone (since state mark) state.tables state.log; log = drop (since state mark) state.log }
+at_mark state mark = back (since state mark) state
 
 -- the rows that a table showed at the newest snapshot when the mark was taken
 abbrev pub rows_at : State → HeapMark → ObjId → List (ℕ × List Value)

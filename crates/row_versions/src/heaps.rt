@@ -56,7 +56,7 @@ impl Model for Heaps {
 }
 
 impl Heaps {
-    ghost use Rattle.row_versions.specs.State.{shown, rows, rows_from, live_rows, IsAdded, KeepsRows, KeepsPinned, KeepsMark, KeepsMarks, Stands, at_mark, rows_at, Inserts, Supersedes, Ends, unpinned, kept_version, last_undone, IsLastRow, IsNextRow};
+    ghost use Rattle.row_versions.specs.State.{shown, rows, rows_from, live_rows, IsAdded, KeepsRows, KeepsPinned, KeepsMark, KeepsMarks, Stands, at_mark, rows_at, Inserts, Supersedes, Ends, unpinned, kept_version, back, last_undone, IsLastRow, IsNextRow};
 
     /// No tables.
     pub fn new(alloc: Global) -> Result<Heaps, NoMemory>
@@ -261,13 +261,15 @@ impl Heaps {
         ensures pinned { KeepsPinned self.old self.new }
         ensures marks { (earlier : HeapMark) → earlier.changes ≤ mark.changes → Stands self.old earlier → KeepsMark self.old self.new earlier }
     {
-        self.undo_to(mark);
+        let since = self.log.len() - mark.changes;
+        self.undo(since);
     }
 
-    fn undo_to(&mut self, mark: HeapMark)
-        ensures { self.new ≡ at_mark self.old mark }
+    /// Takes back the last changes.
+    fn undo(&mut self, count: usize)
+        ensures { self.new ≡ back count self.old }
     {
-        while mark.changes < self.log.len() {
+        for _turn in 0..count {
             self.undo_last();
         }
     }
