@@ -1,4 +1,4 @@
-ghost use Rattle.std.specs.Prelude.{◌≡◌, ℕ, ◌<◌, ◌≤◌, ◌+◌, ◌∷◌, [], ◌++◌, ◌^◌, ◌⊎◌, true, OnOk, IfOk, MatchResult, MatchOption, IsSome, All, Contains, length, drop, reverse, slice_get, slice_index_or};
+ghost use Rattle.std.specs.Prelude.{◌≡◌, ℕ, ◌<◌, ◌≤◌, ◌+◌, ◌∷◌, [], ◌++◌, ◌^◌, ◌⊎◌, true, ◌==◌, position, OnOk, IfOk, MatchResult, MatchOption, IsSome, All, Contains, length, drop, reverse, slice_get, slice_index_or};
 ghost use Rattle.std.specs.Option.{option_copied, option_map};
 ghost use Rattle.q_base.specs.declared.ids.ObjId.{ObjId as Id};
 ghost use Rattle.q_base.specs.declared.code.Code.TheVariants.{LimitExceeded};
@@ -233,7 +233,7 @@ impl Heaps {
         requires { Contains self.old.pins pin }
         ensures { self.new ≡ record self.old { pins = unpinned pin self.old.pins } }
     {
-        if let Some(at) = self.pins.iter().position(|held| *held == pin.moment) {
+        if let Some(at) = place_of(self.pins.as_slice(), pin.moment) {
             let _ = self.pins.remove(at);
         }
     }
@@ -311,6 +311,13 @@ impl Heaps {
             self.pins.as_slice(),
         );
     }
+}
+
+/// The first place of a snapshot among pins.
+fn place_of(pins: &[u64], moment: u64) -> Option<usize>
+    ensures { result ≡ position (λ pin. pin == moment) pins.now }
+{
+    pins.iter().position(|pin| *pin == moment)
 }
 
 /// Prunes the slots of a list, which has each slot that is not settled, and leaves it so.
