@@ -26,10 +26,10 @@ pub in_place_same : (f : List Version → List Version) (tables : List Stored) (
 in_place_same f tables place h =
     in_place_by f (λ versions. versions) tables place.table place.slot h ∙ in_place_id tables place
 
--- versions taken out, changed and put back
-pub put_back : (f : List Version → List Version) (tables : List Stored) (place : Place) (versions : List Version) → versions ≡ f (versions_in place tables) → in_place place (λ _. versions) (in_place place (λ _. []) tables) ≡ in_place place f tables
-put_back f tables place versions h =
-    in_place_twice (λ _. []) (λ _. versions) tables place ∙ in_place_by (λ _. versions) f tables place.table place.slot h
+-- the versions of a slot taken out, changed and put back
+pub put_is : (f : List Version → List Version) (tables emptied put : List Stored) (place : Place) (took versions : List Version) → took ≡ versions_in place tables → emptied ≡ in_place place (λ _. []) tables → versions ≡ f took → put ≡ in_place place (λ _. versions) emptied → put ≡ in_place place f tables
+put_is f tables emptied put place took versions took_is empty changed is =
+    is ∙ ap (in_place place (λ _. versions)) empty ∙ in_place_twice (λ _. []) (λ _. versions) tables place ∙ in_place_by (λ _. versions) f tables place.table place.slot (changed ∙ ap f took_is)
 
 pub slots_at-in_place : (f : List Version → List Version) (tables : List Stored) (table slot : ℕ) → slots_at table (changed table (in_slot slot f) tables) ≡ changed slot f (slots_at table tables)
 slots_at-in_place f [] table slot = refl

@@ -13,7 +13,7 @@ use Rattle.row_versions.specs.declared.tables.Place.{Place}
 use Rattle.row_versions.specs.Versions.{taken_back}
 use Rattle.row_versions.specs.Stored.{Stored, in_place, slots_at, slots_of, versions_in, rows_in, position_of}
 use Rattle.row_versions.specs.Sound.{IsLog, IsSound, was_live, lives_on}
-use Rattle.row_versions.proofs.Places.{put_back, slots_at-in_place, slots_at-in_place_other}
+use Rattle.row_versions.proofs.Places.{slots_at-in_place, slots_at-in_place_other}
 use Rattle.row_versions.proofs.Changed.{length-changed}
 use Rattle.row_versions.proofs.Rows.{same_rows}
 use Rattle.row_versions.proofs.Logs.{undone_sum, undone_position, undone_rows}
@@ -88,11 +88,6 @@ back_marks state mark earlier within le stands =
       };
       names = λ table. ap (λ (t : List Stored). rows_in 0 (slots_of table t) state.newest) (sym (undone_sum count more state.tables state.log) ∙ ap (λ k. undone k state.tables state.log) all);
     }
-
--- the versions of a slot taken out, changed and put back
-pub put_is : (f : List Version → List Version) (tables emptied put : List Stored) (place : Place) (took versions : List Version) → took ≡ versions_in place tables → emptied ≡ in_place place (λ _. []) tables → versions ≡ f took → put ≡ in_place place (λ _. versions) emptied → put ≡ in_place place f tables
-put_is f tables emptied put place took versions took_is empty changed is =
-    is ∙ ap (in_place place (λ _. versions)) empty ∙ put_back f tables place versions (changed ∙ ap f took_is)
 
 pub sound_of_log : (log rest : List Change) (change : Change) (tables : List Stored) (newest live : ℕ) (pins : List ℕ) (stale : List Place) → IsSound tables newest live pins (reverse log) stale → log ≡ rest ++ change ∷ [] → IsSound tables newest live pins (change ∷ reverse rest) stale
 sound_of_log log rest change tables newest live pins stale sound e = subst (λ (l : List Change). IsSound tables newest live pins l stale) (reverse-last log rest change e) sound

@@ -1,4 +1,4 @@
-ghost use Rattle.std.specs.Prelude.{◌≡◌, ℕ, ◌<◌, ◌≤◌, ◌+◌, ◌∷◌, [], ◌++◌, ◌^◌, ◌⊎◌, true, ◌==◌, position, OnOk, IfOk, MatchResult, MatchOption, IsSome, All, Contains, length, drop, reverse, slice_get, slice_index_or};
+ghost use Rattle.std.specs.Prelude.{◌≡◌, ℕ, ◌<◌, ◌≤◌, ◌+◌, ◌∷◌, [], ◌++◌, ◌^◌, ◌⊎◌, true, ◌==◌, if◌then◌else◌, position, vec_len, vec_capacity, OnOk, IfOk, MatchResult, MatchOption, IsSome, All, Contains, length, drop, reverse, slice_get, slice_index_or};
 ghost use Rattle.std.specs.Option.{option_copied, option_map};
 ghost use Rattle.q_base.specs.declared.ids.ObjId.{ObjId as Id};
 ghost use Rattle.q_base.specs.declared.code.Code.TheVariants.{LimitExceeded};
@@ -174,14 +174,9 @@ impl Heaps {
         let place = Place { table, slot };
         self.log.reserve(1)?;
         self.stale.reserve(1)?;
-        let mut slot = self.tables.take(self.alloc, place);
-        let was_settled = slot.is_settled();
-        let result = slot.supersede(row, self.moment);
-        self.tables.put(place, slot);
-        result?;
-        if was_settled {
-            self.stale.push_reserved(place);
-        }
+        let was_settled = self.tables.is_settled(place);
+        self.tables.supersede(self.alloc, place, row, self.moment)?;
+        note(&mut self.stale, place, was_settled);
         self.log.push_reserved(Change {
             place,
             deed: Deed::Superseded,
@@ -202,12 +197,9 @@ impl Heaps {
         let place = Place { table, slot };
         self.log.reserve(1)?;
         self.stale.reserve(1)?;
-        let mut slot = self.tables.take(self.alloc, place);
-        if slot.is_settled() {
-            self.stale.push_reserved(place);
-        }
-        slot.end(self.moment);
-        self.tables.put(place, slot);
+        let was_settled = self.tables.is_settled(place);
+        self.tables.end(self.alloc, place, self.moment);
+        note(&mut self.stale, place, was_settled);
         self.log.push_reserved(Change {
             place,
             deed: Deed::Ended,
@@ -278,9 +270,7 @@ impl Heaps {
         ensures { self.new ≡ last_undone self.old }
     {
         if let Some(change) = self.log.pop() {
-            let mut slot = self.tables.take(self.alloc, change.place);
-            slot.take_back(change.deed);
-            self.tables.put(change.place, slot);
+            self.tables.take_back(self.alloc, change.place, change.deed);
             match change.deed {
                 Deed::Inserted => self.live -= 1,
                 Deed::Superseded => {}
@@ -313,6 +303,16 @@ impl Heaps {
     }
 }
 
+/// Puts a slot on a list with room, if it is new there.
+fn note(stale: &mut Vec<Place>, place: Place, is_new: bool)
+    requires { vec_len stale.old < vec_capacity stale.old }
+    ensures { stale.new.items ≡ (if is_new then stale.old.items ++ place ∷ [] else stale.old.items) }
+{
+    if is_new {
+        stale.push_reserved(place);
+    }
+}
+
 /// The first place of a snapshot among pins.
 fn place_of(pins: &[u64], moment: u64) -> Option<usize>
     ensures { result ≡ position (λ pin. pin == moment) pins.now }
@@ -338,11 +338,7 @@ fn prune_stale(
     while 0 < left {
         left -= 1;
         let place = stale[left];
-        let mut slot = tables.take(alloc, place);
-        slot.prune(newest, pins);
-        let is_settled = slot.is_settled();
-        tables.put(place, slot);
-        if is_settled {
+        if tables.prune(alloc, place, newest, pins) {
             let _ = stale.swap_remove(left);
         }
     }

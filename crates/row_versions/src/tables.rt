@@ -1,9 +1,11 @@
 ghost use Rattle.std.specs.Prelude.{◌≡◌, ◌∷◌, [], ◌++◌, OnOk, OnErr, if◌then◌else◌, is_some, slice_get, slice_index_or, unwrap_or};
 ghost use Rattle.std.specs.Option.{option_copied, option_map_or};
+ghost use Rattle.row_versions.specs.Versions.{superseded, ended, taken_back, kept, is_settled};
 
 use crate::heap::Heap;
-use crate::slot::Slot;
+use crate::slot::{Deed, Slot};
 use q_base::{NoMemory, ObjId};
+use q_value::Row;
 use std::alloc::Global;
 use std::collections::HashMap;
 use std::marker::Model;
@@ -102,8 +104,73 @@ impl Tables {
         Ok(())
     }
 
+    /// Puts a newer version into a slot.
+    pub fn supersede(
+        &mut self,
+        alloc: Global,
+        place: Place,
+        row: Row,
+        moment: u64,
+    ) -> Result<(), NoMemory>
+        ensures ok { OnOk result (self.new ≡ in_place place (superseded row moment) self.old) }
+        ensures err { OnErr result (self.new ≡ self.old) }
+    {
+        let mut slot = self.take(alloc, place);
+        let result = slot.supersede(row, moment);
+        self.put(place, slot);
+        result
+    }
+
+    /// Ends the newest version of a slot.
+    pub fn end(&mut self, alloc: Global, place: Place, moment: u64)
+        ensures { self.new ≡ in_place place (ended moment) self.old }
+    {
+        let mut slot = self.take(alloc, place);
+        slot.end(moment);
+        self.put(place, slot);
+    }
+
+    /// Takes back the last change of a slot.
+    pub fn take_back(&mut self, alloc: Global, place: Place, deed: Deed)
+        ensures { self.new ≡ in_place place (taken_back deed) self.old }
+    {
+        let mut slot = self.take(alloc, place);
+        slot.take_back(deed);
+        self.put(place, slot);
+    }
+
+    /// Drops the versions of a slot that neither the newest snapshot nor one of `pins` shows, and
+    /// says whether there is none left but a live one.
+    pub fn prune(&mut self, alloc: Global, place: Place, newest: u64, pins: &[u64]) -> bool
+        ensures state { self.new ≡ in_place place (kept (newest ∷ pins.now)) self.old }
+        ensures settled { result ≡ is_settled (kept (newest ∷ pins.now) (versions_in place self.old)) }
+    {
+        let mut slot = self.take(alloc, place);
+        slot.prune(newest, pins);
+        let is_settled = slot.is_settled();
+        self.put(place, slot);
+        is_settled
+    }
+
+    /// Whether a slot has no version but a live one.
+    pub fn is_settled(&self, place: Place) -> bool
+        ensures { result ≡ is_settled (versions_in place self.now) }
+    {
+        match self.slot_at(place) {
+            Some(slot) => slot.is_settled(),
+            None => true,
+        }
+    }
+
+    fn slot_at(&self, place: Place) -> Option<&Slot>
+        ensures { versions_in place self.now ≡ unwrap_or (option_copied result) [] }
+    {
+        let heap = self.get(place.table)?;
+        heap.get(place.slot)
+    }
+
     /// Takes the versions of a slot out of it, to be changed and put back.
-    pub fn take(&mut self, alloc: Global, place: Place) -> Slot
+    fn take(&mut self, alloc: Global, place: Place) -> Slot
         ensures versions { result ≡ versions_in place self.old }
         ensures empty { self.new ≡ in_place place (λ _. []) self.old }
     {
@@ -116,7 +183,7 @@ impl Tables {
     }
 
     /// Puts versions into a slot.
-    pub fn put(&mut self, place: Place, slot: Slot)
+    fn put(&mut self, place: Place, slot: Slot)
         ensures { self.new ≡ in_place place (λ _. slot) self.old }
     {
         if place.table < self.heaps.len() {

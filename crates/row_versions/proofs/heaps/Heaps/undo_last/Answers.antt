@@ -1,8 +1,7 @@
 use Rattle.std.proofs.Common.{◌+◌, ◌-◌, reverse, ap, ◌∙◌, arith}
 use Rattle.row_versions.specs.declared.slot.Deed.TheVariants.{Inserted, Superseded, Ended}
-use Rattle.row_versions.specs.Versions.{taken_back}
 use Rattle.row_versions.specs.State.{State, last_undone}
-use Rattle.row_versions.proofs.Undone.{reverse-last, last_of, put_is, sound_of_log, sound_last, live_last}
+use Rattle.row_versions.proofs.Undone.{reverse-last, last_of, sound_of_log, sound_last, live_last}
 use Rattle.row_versions.proofs.heaps.Heaps.undo_last.Goals as goal
 
 pub overflow_sub-self : goal.overflow_sub-self
@@ -16,15 +15,15 @@ invariant_of-self c =
     let change = c.in-Some.change in
     let rest = reverse c.pop.new.self.items in
     let sound = sound_of_log i.log.items c.pop.new.self.items change i.tables i.moment i.live i.pins.items i.stale.items c.self.invariant c.in-Some.ensures.items in
-    let is = put_is (taken_back change.deed) i.tables c.take-slot.new.self c.put.new.self change.place c.take-slot.result c.take_back.new.self c.take-slot.ensures.versions c.take-slot.ensures.empty c.take_back.ensures c.put.ensures in
-    sound_last Inserted change i.tables c.put.new.self i.moment i.live (i.live - 1) i.pins.items rest i.stale.items sound is c.in-Inserted.is (let some = live_last change i.tables i.moment i.live i.pins.items rest i.stale.items sound c.in-Inserted.is in omega arith)
+    let is = c.take_back.ensures in
+    sound_last Inserted change i.tables c.take_back.new.self i.moment i.live (i.live - 1) i.pins.items rest i.stale.items sound is c.in-Inserted.is (let some = live_last change i.tables i.moment i.live i.pins.items rest i.stale.items sound c.in-Inserted.is in omega arith)
 
 pub returns-in-Inserted : goal.returns-in-Inserted
 returns-in-Inserted c =
     let i = c.self.inside in
     let change = c.in-Some.change in
     let state : State = record { tables = i.tables; newest = i.moment; pins = i.pins.items; log = reverse i.log.items } in
-    last_of state change (reverse c.pop.new.self.items) c.put.new.self (reverse-last i.log.items c.pop.new.self.items change c.in-Some.ensures.items) (put_is (taken_back change.deed) i.tables c.take-slot.new.self c.put.new.self change.place c.take-slot.result c.take_back.new.self c.take-slot.ensures.versions c.take-slot.ensures.empty c.take_back.ensures c.put.ensures) ∙ ap last_undone c.self.view_is
+    last_of state change (reverse c.pop.new.self.items) c.take_back.new.self (reverse-last i.log.items c.pop.new.self.items change c.in-Some.ensures.items) c.take_back.ensures ∙ ap last_undone c.self.view_is
 
 pub invariant_of-self-in-Superseded : goal.invariant_of-self-in-Superseded
 invariant_of-self-in-Superseded c =
@@ -32,15 +31,15 @@ invariant_of-self-in-Superseded c =
     let change = c.in-Some.change in
     let rest = reverse c.pop.new.self.items in
     let sound = sound_of_log i.log.items c.pop.new.self.items change i.tables i.moment i.live i.pins.items i.stale.items c.self.invariant c.in-Some.ensures.items in
-    let is = put_is (taken_back change.deed) i.tables c.take-slot.new.self c.put.new.self change.place c.take-slot.result c.take_back.new.self c.take-slot.ensures.versions c.take-slot.ensures.empty c.take_back.ensures c.put.ensures in
-    sound_last Superseded change i.tables c.put.new.self i.moment i.live i.live i.pins.items rest i.stale.items sound is c.in-Superseded.is (omega arith)
+    let is = c.take_back.ensures in
+    sound_last Superseded change i.tables c.take_back.new.self i.moment i.live i.live i.pins.items rest i.stale.items sound is c.in-Superseded.is (omega arith)
 
 pub returns-in-Superseded : goal.returns-in-Superseded
 returns-in-Superseded c =
     let i = c.self.inside in
     let change = c.in-Some.change in
     let state : State = record { tables = i.tables; newest = i.moment; pins = i.pins.items; log = reverse i.log.items } in
-    last_of state change (reverse c.pop.new.self.items) c.put.new.self (reverse-last i.log.items c.pop.new.self.items change c.in-Some.ensures.items) (put_is (taken_back change.deed) i.tables c.take-slot.new.self c.put.new.self change.place c.take-slot.result c.take_back.new.self c.take-slot.ensures.versions c.take-slot.ensures.empty c.take_back.ensures c.put.ensures) ∙ ap last_undone c.self.view_is
+    last_of state change (reverse c.pop.new.self.items) c.take_back.new.self (reverse-last i.log.items c.pop.new.self.items change c.in-Some.ensures.items) c.take_back.ensures ∙ ap last_undone c.self.view_is
 
 pub invariant_of-self-in-Ended : goal.invariant_of-self-in-Ended
 invariant_of-self-in-Ended c =
@@ -48,12 +47,12 @@ invariant_of-self-in-Ended c =
     let change = c.in-Some.change in
     let rest = reverse c.pop.new.self.items in
     let sound = sound_of_log i.log.items c.pop.new.self.items change i.tables i.moment i.live i.pins.items i.stale.items c.self.invariant c.in-Some.ensures.items in
-    let is = put_is (taken_back change.deed) i.tables c.take-slot.new.self c.put.new.self change.place c.take-slot.result c.take_back.new.self c.take-slot.ensures.versions c.take-slot.ensures.empty c.take_back.ensures c.put.ensures in
-    sound_last Ended change i.tables c.put.new.self i.moment i.live (i.live + 1) i.pins.items rest i.stale.items sound is c.in-Ended.is (omega arith)
+    let is = c.take_back.ensures in
+    sound_last Ended change i.tables c.take_back.new.self i.moment i.live (i.live + 1) i.pins.items rest i.stale.items sound is c.in-Ended.is (omega arith)
 
 pub returns-in-Ended : goal.returns-in-Ended
 returns-in-Ended c =
     let i = c.self.inside in
     let change = c.in-Some.change in
     let state : State = record { tables = i.tables; newest = i.moment; pins = i.pins.items; log = reverse i.log.items } in
-    last_of state change (reverse c.pop.new.self.items) c.put.new.self (reverse-last i.log.items c.pop.new.self.items change c.in-Some.ensures.items) (put_is (taken_back change.deed) i.tables c.take-slot.new.self c.put.new.self change.place c.take-slot.result c.take_back.new.self c.take-slot.ensures.versions c.take-slot.ensures.empty c.take_back.ensures c.put.ensures) ∙ ap last_undone c.self.view_is
+    last_of state change (reverse c.pop.new.self.items) c.take_back.new.self (reverse-last i.log.items c.pop.new.self.items change c.in-Some.ensures.items) c.take_back.ensures ∙ ap last_undone c.self.view_is
