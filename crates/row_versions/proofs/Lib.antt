@@ -6,6 +6,7 @@ mod Logs
 mod Made
 mod Marks
 mod Next
+mod Noted
 mod Pins
 mod Places
 mod Positions
