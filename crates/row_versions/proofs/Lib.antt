@@ -2,6 +2,7 @@ mod Changed
 mod Histories
 mod Kept
 mod Live
+mod LiveRows
 mod Logs
 mod Made
 mod Marks
@@ -10,6 +11,7 @@ mod Noted
 mod Pins
 mod Places
 mod Positions
+mod Pruned
 mod Replaced
 mod Rows
 mod Shown

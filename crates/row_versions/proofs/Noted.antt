@@ -14,6 +14,7 @@ use Rattle.row_versions.specs.State.{State, shown, Inserts, Supersedes, Ends}
 use Rattle.row_versions.proofs.Histories.{is_some_shown}
 use Rattle.row_versions.proofs.Sounds.{sound_inserted, sound_superseded, sound_ended, live_counted}
 use Rattle.row_versions.proofs.Made.{slots_there, inserts_made, supersedes_made, ends_made}
+use Rattle.row_versions.proofs.Positions.{position_below}
 use Rattle.row_versions.proofs.Undone.{reverse-last}
 
 -- a slot noted where it is new on the list
@@ -83,3 +84,23 @@ pub ends_told : (table : ObjId) (place : Place) (after : List Stored) (noted : L
 ends_told table place after noted more settled tables newest live pins log stale told sound added was =
     let old : State = record { tables = tables; newest = newest; pins = pins; log = reverse log } in
     subst (λ (new : State). Ends table place.slot old new) (sym (state_told place Ended after noted more settled tables (in_place place (ended newest) tables) newest pins log stale told)) (ends_made table place old live stale sound added was)
+
+pub sound_told_inserted : (row : List Value) (table : ObjId) (place : Place) (after : List Stored) (noted : List Change) (tables : List Stored) (newest live : ℕ) (pins : List ℕ) (log : List Change) (stale : List Place) → after ≡ with_slot place.table (with_version row newest []) tables → noted ≡ log ++ record { place = place; deed = Inserted; moment = newest } ∷ []
+  → IsSound tables newest live pins (reverse log) stale → position_of table.0 tables ≡ Some place.table → place.slot ≡ length (slots_at place.table tables) → live < 1048576 → IsSound after newest (live + 1) pins (reverse noted) stale
+sound_told_inserted row table place after noted tables newest live pins log stale tables_is log_is sound added at room =
+    let change : Change = record { place = place; deed = Inserted; moment = newest } in
+    let changed = with_slot place.table (with_version row newest []) tables in
+    subst (λ (t : List Stored). IsSound t newest (live + 1) pins (reverse noted) stale) (sym tables_is)
+    (subst (λ (l : List Change). IsSound changed newest (live + 1) pins l stale) (sym (reverse-last noted log change log_is))
+      (sound_inserted row place.table place.slot tables newest live pins (reverse log) stale sound (position_below tables table.0 place.table added) at room))
+
+pub inserts_told : (row : List Value) (table : ObjId) (place : Place) (after : List Stored) (noted : List Change) (tables : List Stored) (newest live : ℕ) (pins : List ℕ) (log : List Change) (stale : List Place) → after ≡ with_slot place.table (with_version row newest []) tables → noted ≡ log ++ record { place = place; deed = Inserted; moment = newest } ∷ []
+  → IsSound tables newest live pins (reverse log) stale → position_of table.0 tables ≡ Some place.table → place.slot ≡ length (slots_at place.table tables)
+  → Inserts table place.slot row (record { tables = tables; newest = newest; pins = pins; log = reverse log }) (record { tables = after; newest = newest; pins = pins; log = reverse noted })
+inserts_told row table place after noted tables newest live pins log stale tables_is log_is sound added at =
+    let old : State = record { tables = tables; newest = newest; pins = pins; log = reverse log } in
+    let change : Change = record { place = place; deed = Inserted; moment = newest } in
+    let changed = with_slot place.table (with_version row newest []) tables in
+    let new_is : ◌≡◌ {A = State} (record { tables = after; newest = newest; pins = pins; log = reverse noted }) (record { tables = changed; newest = newest; pins = pins; log = change ∷ reverse log }) =
+      ap (λ (t : List Stored). record { tables = t; newest = newest; pins = pins; log = reverse noted }) tables_is ∙ ap (λ (l : List Change). record { tables = changed; newest = newest; pins = pins; log = l }) (reverse-last noted log change log_is) in
+    subst (λ (new : State). Inserts table place.slot row old new) (sym new_is) (inserts_made row table place old live stale sound added at)

@@ -147,10 +147,7 @@ impl Heaps {
             unreachable!()
         };
         self.log.reserve(1)?;
-        let slot = match self.tables.get(table) {
-            Some(heap) => heap.len(),
-            None => unreachable!(),
-        };
+        let slot = self.tables.len_of(table);
         self.tables
             .push(table, Slot::new(self.alloc, row, self.moment))?;
         self.log.push_reserved(Change {

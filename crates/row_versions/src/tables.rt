@@ -1,4 +1,4 @@
-ghost use Rattle.std.specs.Prelude.{◌≡◌, ◌∷◌, [], ◌++◌, OnOk, OnErr, if◌then◌else◌, is_some, slice_get, slice_index_or, unwrap_or};
+ghost use Rattle.std.specs.Prelude.{◌≡◌, ◌∷◌, [], ◌++◌, OnOk, OnErr, if◌then◌else◌, is_some, slice_get, slice_index_or, unwrap_or, length};
 ghost use Rattle.std.specs.Option.{option_copied, option_map_or};
 ghost use Rattle.row_versions.specs.Versions.{superseded, ended, taken_back, kept, is_settled};
 
@@ -38,7 +38,7 @@ impl Model for Tables {
 }
 
 impl Tables {
-    ghost use Rattle.row_versions.specs.Stored.{position_of, with_table, with_slot, in_place, versions_in, slots_of};
+    ghost use Rattle.row_versions.specs.Stored.{position_of, with_table, with_slot, in_place, versions_in, slots_at, slots_of};
 
     pub fn new(alloc: Global) -> Tables
         ensures { result ≡ [] }
@@ -90,6 +90,16 @@ impl Tables {
     {
         let heap = self.heap_of(id)?;
         heap.get(at)
+    }
+
+    /// How many slots of a table were given.
+    pub fn len_of(&self, table: usize) -> usize
+        ensures { result ≡ length (slots_at table self.now) }
+    {
+        match self.get(table) {
+            Some(heap) => heap.len(),
+            None => 0,
+        }
     }
 
     /// Gives the next slot of a table.
