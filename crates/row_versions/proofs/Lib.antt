@@ -12,6 +12,7 @@ mod Pins
 mod Places
 mod Positions
 mod Pruned
+mod PrunedState
 mod Replaced
 mod Rows
 mod Shown
