@@ -14,6 +14,7 @@ mod Positions
 mod Pruned
 mod PrunedState
 mod Replaced
+mod RowOf
 mod Rows
 mod Shown
 mod Sounds

@@ -6,7 +6,7 @@ use Rattle.q_base.specs.declared.ids.ObjId.{ObjId}
 use Rattle.q_value.specs.declared.value.Value.{Value}
 use Rattle.row_versions.specs.declared.heaps.Change.{Change}
 use Rattle.row_versions.specs.declared.slot.Version.{Version}
-use Rattle.row_versions.specs.declared.snaps.HeapMark.{HeapMark}
+use Rattle.row_versions.specs.Marks.{Mark}
 use Rattle.row_versions.specs.declared.tables.Place.{Place}
 use Rattle.row_versions.specs.Stored.{Stored, slots_at, slots_of, rows_in, position_of}
 use Rattle.row_versions.specs.Sound.{IsSound}
@@ -70,7 +70,7 @@ changes_made change table after old live stale sound added moment places others 
     pinned : (snap : ℕ) → Contains old.pins snap → snap < old.newest
     pinned snap pin = subst (λ k. k < old.newest) pin.2 (sound.pinned pin.0 snap pin.1)
 
-    keeps : (mark : HeapMark) → Stands old mark → KeepsMark old (record old { tables = after; log = change ∷ old.log }) mark
+    keeps : (mark : Mark) → Stands old mark → KeepsMark old (record old { tables = after; log = change ∷ old.log }) mark
     keeps mark stands =
         let n = length old.log - mark.changes in
         let step : suc (length old.log) - mark.changes ≡ suc n = omega (arith, stands.within) in

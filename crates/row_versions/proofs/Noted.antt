@@ -47,60 +47,60 @@ told_here place deed after noted more settled tables changed newest log stale to
     subst (λ (l : List Place). Contains l place) (sym told.stale_is) (put_on settled stale place (subst (λ b. (b ≡ true) ⊎ Contains stale place) (sym told.settled_is) h))
 
 pub sound_told_superseded : (row : List Value) (place : Place) (after : List Stored) (noted : List Change) (more : List Place) (settled : Bool) (tables : List Stored) (newest live : ℕ) (pins : List ℕ) (log : List Change) (stale : List Place) → Told place Superseded after noted more settled tables (in_place place (superseded row newest) tables) newest log stale
-  → IsSound tables newest live pins (reverse log) stale → is_live (versions_in place tables) ≡ true → IsSound after newest live pins (reverse noted) more
+    → IsSound tables newest live pins (reverse log) stale → is_live (versions_in place tables) ≡ true → IsSound after newest live pins (reverse noted) more
 sound_told_superseded row place after noted more settled tables newest live pins log stale told sound was =
     let change : Change = record { place = place; deed = Superseded; moment = newest } in
     let changed = in_place place (superseded row newest) tables in
     subst (λ (t : List Stored). IsSound t newest live pins (reverse noted) more) (sym told.tables_is)
     (subst (λ (l : List Change). IsSound changed newest live pins l more) (sym (reverse-last noted log change told.log_is))
-      (sound_superseded row place tables newest live pins (reverse log) stale more sound was (told_kept place Superseded after noted more settled tables changed newest log stale told) (told_here place Superseded after noted more settled tables changed newest log stale told (sound.listed place))))
+    (sound_superseded row place tables newest live pins (reverse log) stale more sound was (told_kept place Superseded after noted more settled tables changed newest log stale told) (told_here place Superseded after noted more settled tables changed newest log stale told (sound.listed place))))
 
 pub sound_told_ended : (place : Place) (after : List Stored) (noted : List Change) (more : List Place) (settled : Bool) (tables : List Stored) (newest live : ℕ) (pins : List ℕ) (log : List Change) (stale : List Place) → Told place Ended after noted more settled tables (in_place place (ended newest) tables) newest log stale
-  → IsSound tables newest live pins (reverse log) stale → is_live (versions_in place tables) ≡ true → IsSound after newest (live - 1) pins (reverse noted) more
+    → IsSound tables newest live pins (reverse log) stale → is_live (versions_in place tables) ≡ true → IsSound after newest (live - 1) pins (reverse noted) more
 sound_told_ended place after noted more settled tables newest live pins log stale told sound was =
     let change : Change = record { place = place; deed = Ended; moment = newest } in
     let changed = in_place place (ended newest) tables in
     let some : 1 ≤ live = omega (arith, sound.counted, live_counted place tables was) in
     subst (λ (t : List Stored). IsSound t newest (live - 1) pins (reverse noted) more) (sym told.tables_is)
     (subst (λ (l : List Change). IsSound changed newest (live - 1) pins l more) (sym (reverse-last noted log change told.log_is))
-      (sound_ended place tables newest live (live - 1) pins (reverse log) stale more sound was (omega arith) (told_kept place Ended after noted more settled tables changed newest log stale told) (told_here place Ended after noted more settled tables changed newest log stale told (sound.listed place))))
+    (sound_ended place tables newest live (live - 1) pins (reverse log) stale more sound was (omega arith) (told_kept place Ended after noted more settled tables changed newest log stale told) (told_here place Ended after noted more settled tables changed newest log stale told (sound.listed place))))
 
 state_told : (place : Place) (deed : Deed) (after : List Stored) (noted : List Change) (more : List Place) (settled : Bool) (tables changed : List Stored) (newest : ℕ) (pins : List ℕ) (log : List Change) (stale : List Place) → Told place deed after noted more settled tables changed newest log stale
-  → ◌≡◌ {A = State} (record { tables = after; newest = newest; pins = pins; log = reverse noted }) (record { tables = changed; newest = newest; pins = pins; log = record { place = place; deed = deed; moment = newest } ∷ reverse log })
+    → ◌≡◌ {A = State} (record { tables = after; newest = newest; pins = pins; log = reverse noted }) (record { tables = changed; newest = newest; pins = pins; log = record { place = place; deed = deed; moment = newest } ∷ reverse log })
 state_told place deed after noted more settled tables changed newest pins log stale told =
     ap (λ (t : List Stored). record { tables = t; newest = newest; pins = pins; log = reverse noted }) told.tables_is
     ∙ ap (λ (l : List Change). record { tables = changed; newest = newest; pins = pins; log = l }) (reverse-last noted log (record { place = place; deed = deed; moment = newest }) told.log_is)
 
 pub supersedes_told : (row : List Value) (table : ObjId) (place : Place) (after : List Stored) (noted : List Change) (more : List Place) (settled : Bool) (tables : List Stored) (newest live : ℕ) (pins : List ℕ) (log : List Change) (stale : List Place) → Told place Superseded after noted more settled tables (in_place place (superseded row newest) tables) newest log stale
-  → IsSound tables newest live pins (reverse log) stale → position_of table.0 tables ≡ Some place.table → is_live (versions_in place tables) ≡ true
-  → Supersedes table place.slot row (record { tables = tables; newest = newest; pins = pins; log = reverse log }) (record { tables = after; newest = newest; pins = pins; log = reverse noted })
+    → IsSound tables newest live pins (reverse log) stale → position_of table.0 tables ≡ Some place.table → is_live (versions_in place tables) ≡ true
+    → Supersedes table place.slot row (record { tables = tables; newest = newest; pins = pins; log = reverse log }) (record { tables = after; newest = newest; pins = pins; log = reverse noted })
 supersedes_told row table place after noted more settled tables newest live pins log stale told sound added was =
     let old : State = record { tables = tables; newest = newest; pins = pins; log = reverse log } in
     subst (λ (new : State). Supersedes table place.slot row old new) (sym (state_told place Superseded after noted more settled tables (in_place place (superseded row newest) tables) newest pins log stale told)) (supersedes_made row table place old live stale sound added was)
 
 pub ends_told : (table : ObjId) (place : Place) (after : List Stored) (noted : List Change) (more : List Place) (settled : Bool) (tables : List Stored) (newest live : ℕ) (pins : List ℕ) (log : List Change) (stale : List Place) → Told place Ended after noted more settled tables (in_place place (ended newest) tables) newest log stale
-  → IsSound tables newest live pins (reverse log) stale → position_of table.0 tables ≡ Some place.table → is_live (versions_in place tables) ≡ true
-  → Ends table place.slot (record { tables = tables; newest = newest; pins = pins; log = reverse log }) (record { tables = after; newest = newest; pins = pins; log = reverse noted })
+    → IsSound tables newest live pins (reverse log) stale → position_of table.0 tables ≡ Some place.table → is_live (versions_in place tables) ≡ true
+    → Ends table place.slot (record { tables = tables; newest = newest; pins = pins; log = reverse log }) (record { tables = after; newest = newest; pins = pins; log = reverse noted })
 ends_told table place after noted more settled tables newest live pins log stale told sound added was =
     let old : State = record { tables = tables; newest = newest; pins = pins; log = reverse log } in
     subst (λ (new : State). Ends table place.slot old new) (sym (state_told place Ended after noted more settled tables (in_place place (ended newest) tables) newest pins log stale told)) (ends_made table place old live stale sound added was)
 
 pub sound_told_inserted : (row : List Value) (table : ObjId) (place : Place) (after : List Stored) (noted : List Change) (tables : List Stored) (newest live : ℕ) (pins : List ℕ) (log : List Change) (stale : List Place) → after ≡ with_slot place.table (with_version row newest []) tables → noted ≡ log ++ record { place = place; deed = Inserted; moment = newest } ∷ []
-  → IsSound tables newest live pins (reverse log) stale → position_of table.0 tables ≡ Some place.table → place.slot ≡ length (slots_at place.table tables) → live < 1048576 → IsSound after newest (live + 1) pins (reverse noted) stale
+    → IsSound tables newest live pins (reverse log) stale → position_of table.0 tables ≡ Some place.table → place.slot ≡ length (slots_at place.table tables) → live < 1048576 → IsSound after newest (live + 1) pins (reverse noted) stale
 sound_told_inserted row table place after noted tables newest live pins log stale tables_is log_is sound added at room =
     let change : Change = record { place = place; deed = Inserted; moment = newest } in
     let changed = with_slot place.table (with_version row newest []) tables in
     subst (λ (t : List Stored). IsSound t newest (live + 1) pins (reverse noted) stale) (sym tables_is)
     (subst (λ (l : List Change). IsSound changed newest (live + 1) pins l stale) (sym (reverse-last noted log change log_is))
-      (sound_inserted row place.table place.slot tables newest live pins (reverse log) stale sound (position_below tables table.0 place.table added) at room))
+    (sound_inserted row place.table place.slot tables newest live pins (reverse log) stale sound (position_below tables table.0 place.table added) at room))
 
 pub inserts_told : (row : List Value) (table : ObjId) (place : Place) (after : List Stored) (noted : List Change) (tables : List Stored) (newest live : ℕ) (pins : List ℕ) (log : List Change) (stale : List Place) → after ≡ with_slot place.table (with_version row newest []) tables → noted ≡ log ++ record { place = place; deed = Inserted; moment = newest } ∷ []
-  → IsSound tables newest live pins (reverse log) stale → position_of table.0 tables ≡ Some place.table → place.slot ≡ length (slots_at place.table tables)
-  → Inserts table place.slot row (record { tables = tables; newest = newest; pins = pins; log = reverse log }) (record { tables = after; newest = newest; pins = pins; log = reverse noted })
+    → IsSound tables newest live pins (reverse log) stale → position_of table.0 tables ≡ Some place.table → place.slot ≡ length (slots_at place.table tables)
+    → Inserts table place.slot row (record { tables = tables; newest = newest; pins = pins; log = reverse log }) (record { tables = after; newest = newest; pins = pins; log = reverse noted })
 inserts_told row table place after noted tables newest live pins log stale tables_is log_is sound added at =
     let old : State = record { tables = tables; newest = newest; pins = pins; log = reverse log } in
     let change : Change = record { place = place; deed = Inserted; moment = newest } in
     let changed = with_slot place.table (with_version row newest []) tables in
     let new_is : ◌≡◌ {A = State} (record { tables = after; newest = newest; pins = pins; log = reverse noted }) (record { tables = changed; newest = newest; pins = pins; log = change ∷ reverse log }) =
-      ap (λ (t : List Stored). record { tables = t; newest = newest; pins = pins; log = reverse noted }) tables_is ∙ ap (λ (l : List Change). record { tables = changed; newest = newest; pins = pins; log = l }) (reverse-last noted log change log_is) in
+    ap (λ (t : List Stored). record { tables = t; newest = newest; pins = pins; log = reverse noted }) tables_is ∙ ap (λ (l : List Change). record { tables = changed; newest = newest; pins = pins; log = l }) (reverse-last noted log change log_is) in
     subst (λ (new : State). Inserts table place.slot row old new) (sym new_is) (inserts_made row table place old live stale sound added at)

@@ -80,6 +80,7 @@ is_live-kept newest pins (version ∷ versions) h = go (is_none version.until) r
     dead : (b : Bool) → is_none version.until ≡ false → is_live (cond b (version ∷ kept (newest ∷ pins) versions) (kept (newest ∷ pins) versions)) ≡ is_none version.until
     dead true e = refl
     dead false e = past_not_live newest (kept (newest ∷ pins) versions) (past_kept newest (newest ∷ pins) versions h.2) ∙ sym e
+
     go : (b : Bool) → is_none version.until ≡ b → is_live (cond (is_needed (newest ∷ pins) version) (version ∷ kept (newest ∷ pins) versions) (kept (newest ∷ pins) versions)) ≡ is_none version.until
     go true e = ap (λ b. is_live (cond b (version ∷ kept (newest ∷ pins) versions) (kept (newest ∷ pins) versions))) (live_needed newest pins version versions h e)
     go false e = dead (is_needed (newest ∷ pins) version) e
@@ -91,6 +92,7 @@ shown_in-kept snaps snap (version ∷ versions) h = go (is_shown version snap) r
   where
     needed : is_shown version snap ≡ true → is_needed snaps version ≡ true
     needed e = list_any_at (is_shown version) snaps h.0 snap h.1 (ap (is_shown version) h.2 ∙ e)
+
     go : (a : Bool) → is_shown version snap ≡ a → (b : Bool) → is_needed snaps version ≡ b → shown_in (kept snaps versions) snap ≡ shown_in versions snap → shown_in (cond (is_needed snaps version) (version ∷ kept snaps versions) (kept snaps versions)) snap ≡ cond (is_shown version snap) (Some version.row) (shown_in versions snap)
     go true e b f more = ap (λ c. shown_in (cond c (version ∷ kept snaps versions) (kept snaps versions)) snap) (needed e) ∙ ap (λ c. cond c (Some version.row) (shown_in (kept snaps versions) snap)) e ∙ sym (ap (λ c. cond c (Some version.row) (shown_in versions snap)) e)
     go false e true f more = ap (λ c. shown_in (cond c (version ∷ kept snaps versions) (kept snaps versions)) snap) f ∙ ap (cond (is_shown version snap) (Some version.row)) more
@@ -147,19 +149,22 @@ take-swap_remove stale at place lt =
 
 -- one slot pruned: it is as it is to be, and the others are as they were
 pub rest_step : (snaps : List ℕ) (tables : List Stored) (stale : List Place) (left : ℕ) (place : Place) → left < length stale → place ≡ get_or stale left place
-  → ((q : Place) → (kept snaps (versions_in q tables) ≡ versions_in q tables) ⊎ Contains (take (left + 1) stale) q)
-  → (q : Place) → (kept snaps (versions_in q (in_place place (kept snaps) tables)) ≡ versions_in q (in_place place (kept snaps) tables)) ⊎ Contains (take left stale) q
+    → ((q : Place) → (kept snaps (versions_in q tables) ≡ versions_in q tables) ⊎ Contains (take (left + 1) stale) q)
+    → (q : Place) → (kept snaps (versions_in q (in_place place (kept snaps) tables)) ≡ versions_in q (in_place place (kept snaps) tables)) ⊎ Contains (take left stale) q
 rest_step snaps tables stale left place lt is rest q =
     last (in_place_keeps (λ t s versions. (kept snaps versions ≡ versions) ⊎ (Contains (take left stale) (record { table = t; slot = s }) ⊎ (place ≡ record { table = t; slot = s }))) (kept snaps) tables place.table place.slot (inl (kept_twice snaps (versions_in place tables))) (λ t s. first (record { table = t; slot = s }) (rest (record { table = t; slot = s }))) q.table q.slot)
   where
     split : (r : Place) → Contains (take left stale) r ⊎ (get_or stale left place ≡ r) → Contains (take left stale) r ⊎ (place ≡ r)
     split r (inl h) = inl h
     split r (inr e) = inr (is ∙ e)
+
     first : (r : Place) → (kept snaps (versions_in r tables) ≡ versions_in r tables) ⊎ Contains (take (left + 1) stale) r → (kept snaps (versions_in r tables) ≡ versions_in r tables) ⊎ (Contains (take left stale) r ⊎ (place ≡ r))
     first r (inl e) = inl e
     first r (inr h) = inr (split r (Contains-push_cases (take left stale) (get_or stale left place) r (subst (λ (l : List Place). Contains l r) (take_more stale left place lt) h)))
+
     fixed : kept snaps (versions_in place (in_place place (kept snaps) tables)) ≡ versions_in place (in_place place (kept snaps) tables)
     fixed = ap (kept snaps) (versions_in-pruned snaps tables place) ∙ kept_twice snaps (versions_in place tables) ∙ sym (versions_in-pruned snaps tables place)
+
     last : (kept snaps (versions_in q (in_place place (kept snaps) tables)) ≡ versions_in q (in_place place (kept snaps) tables)) ⊎ (Contains (take left stale) q ⊎ (place ≡ q)) → (kept snaps (versions_in q (in_place place (kept snaps) tables)) ≡ versions_in q (in_place place (kept snaps) tables)) ⊎ Contains (take left stale) q
     last (inl e) = inl e
     last (inr (inl h)) = inr h
@@ -167,24 +172,26 @@ rest_step snaps tables stale left place lt is rest q =
 
 -- a slot that isn't settled stays on the list
 pub listed_kept : (snaps : List ℕ) (tables : List Stored) (stale : List Place) (place : Place) → Contains stale place
-  → ((q : Place) → (is_settled (versions_in q tables) ≡ true) ⊎ Contains stale q)
-  → (q : Place) → (is_settled (versions_in q (in_place place (kept snaps) tables)) ≡ true) ⊎ Contains stale q
+    → ((q : Place) → (is_settled (versions_in q tables) ≡ true) ⊎ Contains stale q)
+    → (q : Place) → (is_settled (versions_in q (in_place place (kept snaps) tables)) ≡ true) ⊎ Contains stale q
 listed_kept snaps tables stale place here listed q =
     in_place_keeps (λ t s versions. (is_settled versions ≡ true) ⊎ Contains stale (record { table = t; slot = s })) (kept snaps) tables place.table place.slot (inr here) (λ t s. listed (record { table = t; slot = s })) q.table q.slot
 
 -- one that is settled may go
 pub listed_less : (snaps : List ℕ) (tables : List Stored) (stale less : List Place) (place : Place) → is_settled (kept snaps (versions_in place tables)) ≡ true
-  → ((q : Place) → Contains stale q → Contains less q ⊎ (place ≡ q))
-  → ((q : Place) → (is_settled (versions_in q tables) ≡ true) ⊎ Contains stale q)
-  → (q : Place) → (is_settled (versions_in q (in_place place (kept snaps) tables)) ≡ true) ⊎ Contains less q
+    → ((q : Place) → Contains stale q → Contains less q ⊎ (place ≡ q))
+    → ((q : Place) → (is_settled (versions_in q tables) ≡ true) ⊎ Contains stale q)
+    → (q : Place) → (is_settled (versions_in q (in_place place (kept snaps) tables)) ≡ true) ⊎ Contains less q
 listed_less snaps tables stale less place settled fewer listed q =
     last (in_place_keeps (λ t s versions. (is_settled versions ≡ true) ⊎ (Contains less (record { table = t; slot = s }) ⊎ (place ≡ record { table = t; slot = s }))) (kept snaps) tables place.table place.slot (inl settled) (λ t s. first (record { table = t; slot = s }) (listed (record { table = t; slot = s }))) q.table q.slot)
   where
     first : (r : Place) → (is_settled (versions_in r tables) ≡ true) ⊎ Contains stale r → (is_settled (versions_in r tables) ≡ true) ⊎ (Contains less r ⊎ (place ≡ r))
     first r (inl e) = inl e
     first r (inr h) = inr (fewer r h)
+
     here : is_settled (versions_in place (in_place place (kept snaps) tables)) ≡ true
     here = ap is_settled (versions_in-pruned snaps tables place) ∙ settled
+
     last : (is_settled (versions_in q (in_place place (kept snaps) tables)) ≡ true) ⊎ (Contains less q ⊎ (place ≡ q)) → (is_settled (versions_in q (in_place place (kept snaps) tables)) ≡ true) ⊎ Contains less q
     last (inl e) = inl e
     last (inr (inl h)) = inr h
@@ -231,6 +238,7 @@ all_pruned snaps tables stale left none rest = pruned_fixed snaps tables (λ t s
   where
     nothing : (q : Place) → Contains (take left stale) q → ⊥
     nothing q h = let lt : h.0 < 0 = subst (λ n. h.0 < length (take n stale)) none h.1 in omega arith
+
     fixed : (t s : ℕ) → (kept snaps (get_or (slots_at t tables) s []) ≡ get_or (slots_at t tables) s []) ⊎ Contains (take left stale) (record { table = t; slot = s }) → kept snaps (get_or (slots_at t tables) s []) ≡ get_or (slots_at t tables) s []
     fixed t s (inl e) = e
     fixed t s (inr h) = absurd (nothing (record { table = t; slot = s }) h)

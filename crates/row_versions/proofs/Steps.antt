@@ -5,7 +5,7 @@ use Rattle.std.proofs.lemmas.Bool.{eqb-true}
 use Rattle.q_base.specs.declared.ids.ObjId.{ObjId}
 use Rattle.row_versions.specs.declared.heaps.Change.{Change}
 use Rattle.row_versions.specs.declared.slot.Version.{Version}
-use Rattle.row_versions.specs.declared.snaps.HeapMark.{HeapMark}
+use Rattle.row_versions.specs.Marks.{Mark}
 use Rattle.row_versions.specs.declared.tables.Place.{Place}
 use Rattle.row_versions.specs.Stored.{Stored, with_table, slots_at, slots_of, versions_in, rows_in, position_of}
 use Rattle.row_versions.specs.Sound.{IsHistory, IsSound}

@@ -8,7 +8,7 @@ use Rattle.row_versions.specs.declared.heaps.Change.{Change}
 use Rattle.row_versions.specs.declared.slot.Deed.{Deed}
 use Rattle.row_versions.specs.declared.slot.Deed.TheVariants.{Inserted}
 use Rattle.row_versions.specs.declared.slot.Version.{Version}
-use Rattle.row_versions.specs.declared.snaps.HeapMark.{HeapMark}
+use Rattle.row_versions.specs.Marks.{Mark}
 use Rattle.row_versions.specs.declared.tables.Place.{Place}
 use Rattle.row_versions.specs.Versions.{taken_back}
 use Rattle.row_versions.specs.Stored.{Stored, in_place, slots_at, slots_of, versions_in, rows_in, position_of}
@@ -62,18 +62,18 @@ back_slots count state table =
     go None = refl
     go (Some t) = undone_length count state.tables state.log t
 
-pub back_older : (state : State) (mark : HeapMark) (snap : ℕ) → IsLog state.newest state.tables state.log → Stands state mark → snap < mark.moment → KeepsRows state (at_mark state mark) snap
+pub back_older : (state : State) (mark : Mark) (snap : ℕ) → IsLog state.newest state.tables state.log → Stands state mark → snap < mark.moment → KeepsRows state (at_mark state mark) snap
 back_older state mark snap logged stands lt = λ table.
     let count = length state.log - mark.changes in
     same_rows state.tables (undone count state.tables state.log) table snap snap (undone_position count state.tables state.log table.0) (undone_rows count state.newest mark.moment snap state.tables state.log logged stands.later lt)
 
-pub back_pinned : (state : State) (mark : HeapMark) → IsLog state.newest state.tables state.log → Stands state mark → All (λ pin. pin < mark.moment) state.pins → KeepsPinned state (at_mark state mark)
+pub back_pinned : (state : State) (mark : Mark) → IsLog state.newest state.tables state.log → Stands state mark → All (λ pin. pin < mark.moment) state.pins → KeepsPinned state (at_mark state mark)
 back_pinned state mark logged stands pins = λ snap pin. back_older state mark snap logged stands (subst (λ k. k < mark.moment) pin.2 (pins pin.0 snap pin.1))
 
 All-drop : {A : Type 0} (P : A → Type 0) (n : ℕ) (xs : List A) → All P xs → All P (drop n xs)
 All-drop P n xs h = λ k d lt. subst P (sym (get_or-drop n xs k d)) (h (n + k) d (omega (arith, length-drop n xs)))
 
-pub back_marks : (state : State) (mark earlier : HeapMark) → mark.changes ≤ length state.log → earlier.changes ≤ mark.changes → Stands state earlier → KeepsMark state (at_mark state mark) earlier
+pub back_marks : (state : State) (mark earlier : Mark) → mark.changes ≤ length state.log → earlier.changes ≤ mark.changes → Stands state earlier → KeepsMark state (at_mark state mark) earlier
 back_marks state mark earlier within le stands =
     let count = length state.log - mark.changes in
     let more = length (drop count state.log) - earlier.changes in

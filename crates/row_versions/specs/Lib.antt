@@ -1,3 +1,4 @@
+pub mod Marks
 pub mod Sound
 pub mod State
 pub mod Stored

@@ -4,7 +4,7 @@ use Rattle.q_base.specs.declared.ids.ObjId.{ObjId}
 use Rattle.q_value.specs.declared.value.Value.{Value}
 use Rattle.row_versions.specs.declared.heaps.Change.{Change}
 use Rattle.row_versions.specs.declared.slot.Deed.TheVariants.{Inserted, Superseded, Ended}
-use Rattle.row_versions.specs.declared.snaps.HeapMark.{HeapMark}
+use Rattle.row_versions.specs.Marks.{Mark}
 use Rattle.row_versions.specs.declared.slot.Version.{Version}
 use Rattle.row_versions.specs.declared.tables.Place.{Place}
 use Rattle.row_versions.specs.Versions.{shown_in, with_version, superseded, ended, taken_back}
@@ -21,6 +21,11 @@ pub record State : Type 0 where
 -- the row that a slot shows at a snapshot
 abbrev pub shown : State → ObjId → ℕ → ℕ → Option (List Value)
 shown state table slot snap = shown_in (slice_index_or (slots_of table state.tables) slot []) snap
+
+-- the row that a list of rows has for a slot
+abbrev pub row_of : ℕ → List (ℕ × List Value) → Option (List Value)
+row_of slot [] = None
+row_of slot (row ∷ rows) = if row.0 == slot then Some row.1 else row_of slot rows
 
 -- the row of a version that a slot keeps, counted from 0 at the oldest
 abbrev pub kept_version : State → ObjId → ℕ → ℕ → Option (List Value)
@@ -57,11 +62,11 @@ abbrev pub last_undone : State → State
 last_undone state = state_before state state.log
 
 -- how many changes were made since a mark
-abbrev pub since : State → HeapMark → ℕ
+abbrev pub since : State → Mark → ℕ
 since state mark = length state.log - mark.changes
 
 -- no more was taken back than the mark has, and no change before its moment is to be taken back
-pub record Stands (state : State) (mark : HeapMark) : Type 0 where
+pub record Stands (state : State) (mark : Mark) : Type 0 where
   pub within : mark.changes ≤ length state.log
   pub made : mark.moment ≤ state.newest
   pub later : All (λ change. mark.moment ≤ change.moment) (take (since state mark) state.log)
@@ -71,15 +76,15 @@ abbrev pub back : ℕ → State → State
 back count state = record state { tables = undone count state.tables state.log; log = drop count state.log }
 
 -- the state that a mark names
-abbrev pub at_mark : State → HeapMark → State
+abbrev pub at_mark : State → Mark → State
 at_mark state mark = back (since state mark) state
 
 -- the rows that a table showed at the newest snapshot when the mark was taken
-abbrev pub rows_at : State → HeapMark → ObjId → List (ℕ × List Value)
+abbrev pub rows_at : State → Mark → ObjId → List (ℕ × List Value)
 rows_at state mark table = rows (at_mark state mark) table state.newest
 
 -- a mark that stands goes on standing, and names the same rows
-pub record KeepsMark (old new : State) (mark : HeapMark) : Type 0 where
+pub record KeepsMark (old new : State) (mark : Mark) : Type 0 where
   pub stands : Stands new mark
   pub names : (table : ObjId) → rows_at new mark table ≡ rows_at old mark table
 
@@ -89,7 +94,7 @@ KeepsPinned old new = (snap : ℕ) → Contains old.pins snap → KeepsRows old 
 
 -- each mark goes on standing
 abbrev pub KeepsMarks : State → State → Type 0
-KeepsMarks old new = (mark : HeapMark) → Stands old mark → KeepsMark old new mark
+KeepsMarks old new = (mark : Mark) → Stands old mark → KeepsMark old new mark
 
 -- the table was added
 abbrev pub IsAdded : State → ObjId → Type 0

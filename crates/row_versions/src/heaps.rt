@@ -340,3 +340,6 @@ fn prune_stale(
         }
     }
 }
+
+#[cfg(test)]
+mod tests;

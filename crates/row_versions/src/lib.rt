@@ -7,6 +7,7 @@
 
 mod heap;
 mod heaps;
+pub mod laws;
 mod slot;
 mod snaps;
 mod tables;

@@ -38,3 +38,13 @@ pub struct HeapMark {
     /// The number of the snapshot that was the newest.
     pub(crate) moment: u64,
 }
+
+impl Model for HeapMark {
+    ghost use Rattle.row_versions.specs.Marks.{Mark};
+
+    ghost Value = { Mark };
+
+    ghost view = { λ mark. record { changes = mark.changes; moment = mark.moment } };
+
+    ghost inverse = { λ mark. record { changes = mark.changes; moment = mark.moment } };
+}

@@ -11,6 +11,7 @@ use std::process::Abort;
 use std::test::Fail;
 
 const TABLE: ObjId = ObjId(7);
+
 const OTHER: ObjId = ObjId(9);
 
 fn row(alloc: Global, number: i32) -> Result<Row, NoMemory> {
@@ -69,4 +70,40 @@ fn is_held(heaps: &Heaps, pin: &Pin) -> bool
     ensures { IsTrue result → Contains heaps.now.pins pin.now }
 {
     super::place_of(heaps.pins.as_slice(), pin.moment).is_some()
+}
+
+/// Inserts a row where that may be done.
+fn put(
+    rt: &impl Abort,
+    alloc: Global,
+    heaps: &mut Heaps,
+    table: ObjId,
+    number: i32,
+) -> Result<SlotId, Fail>
+    ensures { OnOk result (KeepsMarks heaps.old heaps.new) }
+{
+    assert!(rt; is_ready(heaps, table));
+    Ok(heaps.insert(table, row(alloc, number)?)?)
+}
+
+fn replace(
+    rt: &impl Abort,
+    alloc: Global,
+    heaps: &mut Heaps,
+    slot: u64,
+    number: i32,
+) -> Result<(), Fail>
+    ensures { OnOk result (KeepsMarks heaps.old heaps.new) }
+{
+    assert!(rt; is_live(heaps, TABLE, SlotId(slot)));
+    heaps.supersede(TABLE, SlotId(slot), row(alloc, number)?)?;
+    Ok(())
+}
+
+fn delete(rt: &impl Abort, heaps: &mut Heaps, slot: u64) -> Result<(), Fail>
+    ensures { OnOk result (KeepsMarks heaps.old heaps.new) }
+{
+    assert!(rt; is_live(heaps, TABLE, SlotId(slot)));
+    heaps.end(TABLE, SlotId(slot))?;
+    Ok(())
 }

@@ -20,11 +20,11 @@ loop-left-preserved c =
     let is = c.prune.ensures.state in
     let rest = rest_step snaps tables stale left place lt c.index-place.ensures (subst (λ n. (q : Place) → (kept snaps (versions_in q tables) ≡ versions_in q tables) ⊎ Contains (take n stale) q) more c.loop-left.invariant.rest) in
     record {
-        within = omega (arith, c.loop-left.invariant.within);
-        same = ap (pruned snaps) is ∙ pruned-in_place snaps tables place ∙ c.loop-left.invariant.same;
-        dated = subst (λ (ts : List Stored). (q : Place) → IsHistory c.args.newest (versions_in q ts)) (sym is) (dated_step c.args.newest snaps tables place c.loop-left.invariant.dated);
-        rest = subst (λ (ts : List Stored). (q : Place) → (kept snaps (versions_in q ts) ≡ versions_in q ts) ⊎ Contains (take left stale) q) (sym is) rest;
-        listed = subst (λ (ts : List Stored). (q : Place) → (is_settled (versions_in q ts) ≡ true) ⊎ Contains stale q) (sym is) (listed_kept snaps tables stale place (left, lt, sym c.index-place.ensures) c.loop-left.invariant.listed)
+      within = omega (arith, c.loop-left.invariant.within);
+      same = ap (pruned snaps) is ∙ pruned-in_place snaps tables place ∙ c.loop-left.invariant.same;
+      dated = subst (λ (ts : List Stored). (q : Place) → IsHistory c.args.newest (versions_in q ts)) (sym is) (dated_step c.args.newest snaps tables place c.loop-left.invariant.dated);
+      rest = subst (λ (ts : List Stored). (q : Place) → (kept snaps (versions_in q ts) ≡ versions_in q ts) ⊎ Contains (take left stale) q) (sym is) rest;
+      listed = subst (λ (ts : List Stored). (q : Place) → (is_settled (versions_in q ts) ≡ true) ⊎ Contains stale q) (sym is) (listed_kept snaps tables stale place (left, lt, sym c.index-place.ensures) c.loop-left.invariant.listed);
     }
 
 pub loop-left-preserved-then-prune : goal.loop-left-preserved-then-prune
@@ -42,15 +42,15 @@ loop-left-preserved-then-prune c =
     let less_is : less ≡ swap_remove stale left place = removed_at stale less left place c.swap_remove.result lt c.index-place.ensures c.swap_remove.ensures.value c.swap_remove.ensures.items in
     let settled : is_settled (kept snaps (versions_in place tables)) ≡ true = sym c.prune.ensures.settled ∙ c.if-prune.true in
     record {
-        within = omega (arith, c.loop-left.invariant.within, c.swap_remove.ensures.len);
-        same = ap (pruned snaps) is ∙ pruned-in_place snaps tables place ∙ c.loop-left.invariant.same;
-        dated = subst (λ (ts : List Stored). (q : Place) → IsHistory c.args.newest (versions_in q ts)) (sym is) (dated_step c.args.newest snaps tables place c.loop-left.invariant.dated);
-        rest =
+      within = omega (arith, c.loop-left.invariant.within, c.swap_remove.ensures.len);
+      same = ap (pruned snaps) is ∙ pruned-in_place snaps tables place ∙ c.loop-left.invariant.same;
+      dated = subst (λ (ts : List Stored). (q : Place) → IsHistory c.args.newest (versions_in q ts)) (sym is) (dated_step c.args.newest snaps tables place c.loop-left.invariant.dated);
+      rest =
           subst (λ (l : List Place). (q : Place) → (kept snaps (versions_in q c.prune.new.self) ≡ versions_in q c.prune.new.self) ⊎ Contains l q) (sym (ap (take left) less_is ∙ take-swap_remove stale left place lt))
           (subst (λ (ts : List Stored). (q : Place) → (kept snaps (versions_in q ts) ≡ versions_in q ts) ⊎ Contains (take left stale) q) (sym is) rest);
-        listed =
+      listed =
           subst (λ (ts : List Stored). (q : Place) → (is_settled (versions_in q ts) ≡ true) ⊎ Contains less q) (sym is)
-          (listed_less snaps tables stale less place settled (λ q h. subst (λ (l : List Place). Contains l q ⊎ (place ≡ q)) (sym less_is) (Contains-swap_remove stale left place q lt c.index-place.ensures h)) c.loop-left.invariant.listed)
+          (listed_less snaps tables stale less place settled (λ q h. subst (λ (l : List Place). Contains l q ⊎ (place ≡ q)) (sym less_is) (Contains-swap_remove stale left place q lt c.index-place.ensures h)) c.loop-left.invariant.listed);
     }
 
 pub returns-clause-pruned : goal.returns-clause-pruned
