@@ -1,0 +1,345 @@
+ghost use Rattle.std.specs.Prelude.{◌≡◌, ℕ, ◌<◌, ◌≤◌, ◌+◌, ◌∷◌, [], ◌++◌, ◌^◌, ◌⊎◌, true, ◌==◌, if◌then◌else◌, position, vec_len, vec_capacity, OnOk, IfOk, MatchResult, MatchOption, IsSome, All, Contains, length, drop, reverse, slice_get, slice_index_or};
+ghost use Rattle.std.specs.Option.{option_copied, option_map};
+ghost use Rattle.q_base.specs.declared.ids.ObjId.{ObjId as Id};
+ghost use Rattle.q_base.specs.declared.code.Code.TheVariants.{LimitExceeded};
+ghost use Rattle.q_base.specs.declared.errors.Stop.TheVariants.{Sql};
+ghost use Rattle.q_base.specs.Stops.{StopsBy};
+ghost use Rattle.row_versions.specs.Stored.{with_table, first_of, slots_of, versions_in, pruned};
+ghost use Rattle.row_versions.specs.Sound.{IsHistory};
+ghost use Rattle.row_versions.specs.Versions.{is_settled};
+ghost use Rattle.row_versions.specs.declared.tables.Place.{Place as Slots};
+
+use crate::slot::{Deed, Slot};
+use crate::snaps::{HeapMark, Pin, Snap};
+use crate::tables::{Place, Tables};
+use q_base::{Code, NoMemory, ObjId, SlotId, Stop, refusal};
+use q_value::Row;
+use std::alloc::Global;
+use std::marker::Model;
+
+/// The most rows that may be live at once, those of all tables together.
+const MOST_LIVE_ROWS: u32 = 1_048_576;
+
+/// A change that can be taken back.
+#[derive(Clone, Copy)]
+pub struct Change {
+    pub place: Place,
+    pub deed: Deed,
+    pub moment: u64,
+}
+
+/// The rows of all tables, in versions.
+#[derive(Drop)]
+pub struct Heaps {
+    alloc: Global,
+    tables: Tables,
+    /// The number of the newest snapshot, which shows every change up to now.
+    moment: u64,
+    live: u32,
+    pins: Vec<u64>,
+    /// The changes that can be taken back, in the order in which they were made.
+    log: Vec<Change>,
+    /// The slots that may have a version to prune.
+    stale: Vec<Place>,
+}
+
+impl Model for Heaps {
+    ghost use Rattle.std.specs.Prelude.{reverse};
+    ghost use Rattle.row_versions.specs.Sound.{IsSound};
+    ghost use Rattle.row_versions.specs.State.{State};
+
+    ghost Value = { State };
+
+    ghost view = { λ h. record { tables = h.tables; newest = h.moment; pins = h.pins.items; log = reverse h.log.items } };
+
+    ghost invariant = { λ h. IsSound h.tables h.moment h.live h.pins.items (reverse h.log.items) h.stale.items };
+}
+
+impl Heaps {
+    ghost use Rattle.row_versions.specs.State.{shown, rows, rows_from, live_rows, IsAdded, KeepsRows, KeepsPinned, KeepsMark, KeepsMarks, Stands, at_mark, rows_at, Inserts, Supersedes, Ends, unpinned, kept_version, back, last_undone, IsLastRow, IsNextRow};
+
+    /// No tables.
+    pub fn new(alloc: Global) -> Result<Heaps, NoMemory>
+        ensures { IfOk result (λ heaps. heaps ≡ record { tables = []; newest = 0; pins = []; log = [] }) }
+    {
+        Ok(Heaps {
+            alloc,
+            tables: Tables::new(alloc),
+            moment: 0,
+            live: 0,
+            pins: Vec::new(alloc),
+            log: Vec::new(alloc),
+            stale: Vec::new(alloc),
+        })
+    }
+
+    /// Adds a table without rows, unless it is there. A rollback leaves it there.
+    pub fn add_table(&mut self, table: ObjId) -> Result<(), NoMemory>
+        ensures state { OnOk result (self.new ≡ record self.old { tables = with_table table self.old.tables }) }
+        ensures added { OnOk result (IsAdded self.new table) }
+        ensures rows { OnOk result ((snap : ℕ) → KeepsRows self.old self.new snap) }
+        ensures marks { OnOk result (KeepsMarks self.old self.new) }
+    {
+        self.tables.add(self.alloc, table)?;
+        Ok(())
+    }
+
+    /// The row that a slot shows at a snapshot.
+    pub fn visible(&self, table: ObjId, slot: SlotId, snap: Snap) -> Option<&Row>
+        ensures { option_copied result ≡ shown self.now table slot.0 snap }
+    {
+        let slot = self.tables.slot_of(table, slot.0 as usize)?;
+        slot.shown(snap.moment)
+    }
+
+    /// The least slot not below `from` that shows a row at a snapshot.
+    pub fn next_slot(&self, table: ObjId, from: SlotId, snap: Snap) -> Option<SlotId>
+        ensures { MatchOption result (IsLastRow self.now table from.0 snap) (λ slot. IsNextRow self.now table from.0 snap slot.0) }
+    {
+        let slot = self.first_from(table, from.0 as usize, snap.moment)?;
+        Some(SlotId(slot as u64))
+    }
+
+    fn first_from(&self, table: ObjId, from: usize, moment: u64) -> Option<usize>
+        ensures { result ≡ first_of (rows_from self.now table from moment) }
+    {
+        let heap = self.tables.heap_of(table)?;
+        heap.next_shown(from, moment)
+    }
+
+    /// The row of a slot's kept version, counted from 0 at the oldest.
+    pub fn version(&self, table: ObjId, slot: SlotId, at: usize) -> Option<&Row>
+        ensures { option_copied result ≡ kept_version self.now table slot.0 at }
+    {
+        let slot = self.tables.slot_of(table, slot.0 as usize)?;
+        slot.version(at)
+    }
+
+    /// The newest snapshot. Later changes are not shown by it.
+    pub fn advance(&mut self) -> Snap
+        requires { self.old.newest < 2 ^ 62 }
+        ensures snap { result ≡ self.old.newest }
+        ensures state { self.new ≡ record self.old { newest = self.old.newest + 1 } }
+        ensures newest { (table : Id) → rows self.new table self.new.newest ≡ rows self.old table self.old.newest }
+        ensures marks { KeepsMarks self.old self.new }
+    {
+        let snap = Snap {
+            moment: self.moment,
+        };
+        self.moment += 1;
+        snap
+    }
+
+    /// Inserts a row into a slot of its own, after all others of the table. Refused where 2^20 rows
+    /// of all tables together are live.
+    pub fn insert(&mut self, table: ObjId, row: Row) -> Result<SlotId, Stop>
+        requires added { IsAdded self.old table }
+        requires few { length (slots_of table self.old.tables) < 2 ^ 62 }
+        ensures cases { MatchResult result
+            (λ slot. (live_rows self.old < 2 ^ 20) × Inserts table slot.0 row self.old self.new)
+            (StopsBy (λ e. (e ≡ record { code = LimitExceeded; args = [] }) × (2 ^ 20 ≤ live_rows self.old) × (self.new ≡ self.old))) }
+        ensures full { 2 ^ 20 ≤ live_rows self.old → result ≡ Err (Sql (record { code = LimitExceeded; args = [] })) }
+    {
+        if MOST_LIVE_ROWS <= self.live {
+            return Err(refusal(self.alloc, Code::LimitExceeded));
+        }
+        let Some(table) = self.tables.find(table) else {
+            unreachable!()
+        };
+        self.log.reserve(1)?;
+        let slot = self.tables.len_of(table);
+        self.tables
+            .push(table, Slot::new(self.alloc, row, self.moment))?;
+        self.log.push_reserved(Change {
+            place: Place { table, slot },
+            deed: Deed::Inserted,
+            moment: self.moment,
+        });
+        self.live += 1;
+        Ok(SlotId(slot as u64))
+    }
+
+    /// Puts a newer version of a row into its slot.
+    pub fn supersede(&mut self, table: ObjId, slot: SlotId, row: Row) -> Result<(), NoMemory>
+        requires { IsSome (shown self.old table slot.0 self.old.newest) }
+        ensures { OnOk result (Supersedes table slot.0 row self.old self.new) }
+    {
+        let Some(table) = self.tables.find(table) else {
+            unreachable!()
+        };
+        let slot = slot.0 as usize;
+        let place = Place { table, slot };
+        self.log.reserve(1)?;
+        self.stale.reserve(1)?;
+        let was_settled = self.tables.is_settled(place);
+        self.tables.supersede(self.alloc, place, row, self.moment)?;
+        note(&mut self.stale, place, was_settled);
+        self.log.push_reserved(Change {
+            place,
+            deed: Deed::Superseded,
+            moment: self.moment,
+        });
+        Ok(())
+    }
+
+    /// Deletes the row of a slot.
+    pub fn end(&mut self, table: ObjId, slot: SlotId) -> Result<(), NoMemory>
+        requires { IsSome (shown self.old table slot.0 self.old.newest) }
+        ensures { OnOk result (Ends table slot.0 self.old self.new) }
+    {
+        let Some(table) = self.tables.find(table) else {
+            unreachable!()
+        };
+        let slot = slot.0 as usize;
+        let place = Place { table, slot };
+        self.log.reserve(1)?;
+        self.stale.reserve(1)?;
+        let was_settled = self.tables.is_settled(place);
+        self.tables.end(self.alloc, place, self.moment);
+        note(&mut self.stale, place, was_settled);
+        self.log.push_reserved(Change {
+            place,
+            deed: Deed::Ended,
+            moment: self.moment,
+        });
+        self.live -= 1;
+        Ok(())
+    }
+
+    /// Holds what a snapshot shows until the pin is handed back.
+    pub fn pin(&mut self, snap: Snap) -> Result<Pin, NoMemory>
+        requires { snap < self.old.newest }
+        ensures { IfOk result (λ pin. (pin ≡ snap) × (self.new ≡ record self.old { pins = self.old.pins ++ snap ∷ [] })) }
+    {
+        self.pins.push(snap.moment)?;
+        Ok(Pin {
+            moment: snap.moment,
+        })
+    }
+
+    /// Ends a pin.
+    pub fn unpin(&mut self, pin: Pin)
+        requires { Contains self.old.pins pin }
+        ensures { self.new ≡ record self.old { pins = unpinned pin self.old.pins } }
+    {
+        if let Some(at) = place_of(self.pins.as_slice(), pin.moment) {
+            let _ = self.pins.remove(at);
+        }
+    }
+
+    /// Names the state of now.
+    pub fn mark(&self) -> HeapMark
+        ensures mark { result ≡ record { changes = length self.now.log; moment = self.now.newest } }
+        ensures stands { Stands self.now result }
+        ensures names { (table : Id) → rows_at self.now result table ≡ rows self.now table self.now.newest }
+    {
+        HeapMark {
+            changes: self.log.len(),
+            moment: self.moment,
+        }
+    }
+
+    /// Takes back the changes since the mark. Slots that were given since are not given again.
+    pub fn rollback_to(&mut self, mark: HeapMark)
+        requires stands { Stands self.old mark }
+        requires pins { All (λ pin. pin < mark.moment) self.old.pins }
+        ensures state { self.new ≡ at_mark self.old mark }
+        ensures newest { (table : Id) → rows self.new table self.new.newest ≡ rows_at self.old mark table }
+        ensures slots { (table : Id) → length (slots_of table self.new.tables) ≡ length (slots_of table self.old.tables) }
+        ensures older { (snap : ℕ) → snap < mark.moment → KeepsRows self.old self.new snap }
+        ensures pinned { KeepsPinned self.old self.new }
+        ensures marks { (earlier : HeapMark) → earlier.changes ≤ mark.changes → Stands self.old earlier → KeepsMark self.old self.new earlier }
+    {
+        let since = self.log.len() - mark.changes;
+        self.undo(since);
+    }
+
+    /// Takes back the last changes.
+    fn undo(&mut self, count: usize)
+        ensures { self.new ≡ back count self.old }
+    {
+        for _turn in 0..count {
+            self.undo_last();
+        }
+    }
+
+    fn undo_last(&mut self)
+        ensures { self.new ≡ last_undone self.old }
+    {
+        if let Some(change) = self.log.pop() {
+            self.tables.take_back(self.alloc, change.place, change.deed);
+            match change.deed {
+                Deed::Inserted => self.live -= 1,
+                Deed::Superseded => {}
+                Deed::Ended => self.live += 1,
+            }
+        }
+    }
+
+    /// Keeps the changes for good, as COMMIT does.
+    pub fn forget(&mut self)
+        ensures { self.new ≡ record self.old { log = [] } }
+    {
+        self.log.clear();
+    }
+
+    /// Drops the versions that neither the newest snapshot nor a pinned one shows.
+    pub fn prune(&mut self)
+        requires { self.old.log ≡ [] }
+        ensures state { self.new ≡ record self.old { tables = pruned (self.old.newest ∷ self.old.pins) self.old.tables } }
+        ensures shows { (snap : ℕ) → Contains (self.old.newest ∷ self.old.pins) snap → KeepsRows self.old self.new snap }
+        ensures marks { KeepsMarks self.old self.new }
+    {
+        prune_stale(
+            self.alloc,
+            &mut self.tables,
+            &mut self.stale,
+            self.moment,
+            self.pins.as_slice(),
+        );
+    }
+}
+
+/// Puts a slot on a list with room, if it is new there.
+fn note(stale: &mut Vec<Place>, place: Place, is_new: bool)
+    requires { vec_len stale.old < vec_capacity stale.old }
+    ensures { stale.new.items ≡ (if is_new then stale.old.items ++ place ∷ [] else stale.old.items) }
+{
+    if is_new {
+        stale.push_reserved(place);
+    }
+}
+
+/// The first place of a snapshot among pins.
+fn place_of(pins: &[u64], moment: u64) -> Option<usize>
+    ensures { result ≡ position (λ pin. pin == moment) pins.now }
+{
+    pins.iter().position(|pin| *pin == moment)
+}
+
+/// Prunes the slots of a list, which has each slot that is not settled, and leaves it so.
+fn prune_stale(
+    alloc: Global,
+    tables: &mut Tables,
+    stale: &mut Vec<Place>,
+    newest: u64,
+    pins: &[u64],
+)
+    requires dated { (place : Slots) → IsHistory newest (versions_in place tables.old) }
+    requires listed { (place : Slots) → (is_settled (versions_in place tables.old) ≡ true) ⊎ Contains stale.old.items place }
+    ensures pruned { tables.new ≡ pruned (newest ∷ pins.now) tables.old }
+    ensures dated { (place : Slots) → IsHistory newest (versions_in place tables.new) }
+    ensures listed { (place : Slots) → (is_settled (versions_in place tables.new) ≡ true) ⊎ Contains stale.new.items place }
+{
+    let mut left = stale.len();
+    while 0 < left {
+        left -= 1;
+        let place = stale[left];
+        if tables.prune(alloc, place, newest, pins) {
+            let _ = stale.swap_remove(left);
+        }
+    }
+}
+
+#[cfg(test)]
+mod tests;
