@@ -2,8 +2,8 @@ use crate::{Block, Transaction};
 use q_base::{Stop, Str};
 use std::test::Fail;
 
-fn sqlstate_of(result: Result<(), Stop>) -> &'static str {
-    match result {
+fn sqlstate_of(answer: Result<(), Stop>) -> &'static str {
+    match answer {
         Err(Stop::Sql(error)) => error.code.sqlstate(),
         _ => "",
     }
