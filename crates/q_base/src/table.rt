@@ -21,7 +21,7 @@ impl<'a, K: Ord, V, const N: usize> Table<'a, K, V, N> {
     }
 
     /// The value of the only row of `key`; `None` exactly where no row has it. It compares the key with
-    /// as many rows as the number of rows has binary digits.
+    /// at most one row more than the number of rows has binary digits.
     pub fn find(&self, key: &K) -> Option<&'a V>
         ensures value { option_copied result ≡ value_of K.cmp key.now self.now.rows.now }
         ensures only { MatchOption (option_copied result) (rows_of K.cmp key.now self.now.rows.now ≡ []) (λ value. (same : K) × (rows_of K.cmp key.now self.now.rows.now ≡ (same, value) ∷ [])) }
