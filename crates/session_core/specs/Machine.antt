@@ -1,30 +1,29 @@
-use Rattle.std.specs.Prelude.{◌≡◌, ◌⊎◌, ℕ, List, [], ◌∷◌, Result, Ok, Err}
-use Rattle.q_base.specs.declared.code.Code.TheVariants.{SyntaxError}
+use Rattle.std.specs.Prelude.{◌≡◌, ℕ, List, [], ◌∷◌, Result, Ok, Err}
 use Rattle.q_base.specs.declared.errors.SqlError.{SqlError}
 use Rattle.q_base.specs.declared.settings.Mode.{Mode}
 use Rattle.sql_tokens.specs.declared.token.Token.{Token}
 use Rattle.sql_tokens.specs.Tokens.{tokens_of}
-use Rattle.session_core.specs.declared.grammar.Command.{Command}
-use Rattle.session_core.specs.declared.grammar.Command.TheVariants.{Prepare, Execute}
+use Rattle.sql_tree.specs.declared.command.Command.{Command}
+use Rattle.sql_tree.specs.declared.command.Command.TheVariants.{Prepare, Execute}
+use Rattle.sql_reader.specs.Commands.{command_of}
 use Rattle.session_core.specs.declared.session.Done.{Done}
-use Rattle.session_core.specs.Grammar.{Spells}
 use Rattle.session_core.specs.State.{State, empty_state, Refuses}
-use Rattle.session_core.specs.Prepared.{Prepares, Executes}
+use Rattle.session_core.specs.Prepared.{Prepares, Executes, Unbuilt}
 
 -- the command leads from state to state2 with that end and output; one case a command
 abbrev pub Performs : State → Command → Done → List ℕ → State → Type 0
-Performs state (Prepare name digits) = Prepares state name digits
-Performs state (Execute name) = Executes state name
+Performs state (Prepare tree) = Prepares state tree
+Performs state (Execute tree) = Executes state tree
+Performs state _ = Unbuilt state
 
--- the tokens lead from state to state2: by the command that they spell, or refused where they spell none
-abbrev pub Follows : State → List Token → Done → List ℕ → State → Type 0
-Follows state tokens end output state2 =
-    ((command : Command) × Spells tokens command × Performs state command end output state2)
-    ⊎ (((command : Command) → Spells tokens command → ⊥) × Refuses state (record { code = SyntaxError; args = [] }) end output state2)
+-- the same of tokens that spell a command, or that are refused
+abbrev pub Follows : State → Result Command SqlError → Done → List ℕ → State → Type 0
+Follows state (Ok command) = Performs state command
+Follows state (Err error) = Refuses state error
 
 -- the same of a text whose tokens are found, or that is refused
 abbrev pub Reads : State → Result (List Token) SqlError → Done → List ℕ → State → Type 0
-Reads state (Ok tokens) = Follows state tokens
+Reads state (Ok tokens) = Follows state (command_of tokens)
 Reads state (Err error) = Refuses state error
 
 -- one step: from state the text of a command gives that end and output, and leads to state2

@@ -1,9 +1,9 @@
 //! One session: the statements that it keeps, and what each command does and answers.
 #![tactic(auto)]
 
-mod grammar;
 mod numbers;
 mod result_text;
+mod selected;
 mod session;
 mod statements;
 

@@ -6,11 +6,12 @@ ghost use Rattle.session_core.specs.Texts.{error_lines};
 
 mod prepared;
 
-use crate::grammar::{Command, read_command};
 use crate::result_text::error_text;
 use crate::statements::Statements;
-use q_base::{Mode, NoMemory, Stop, Work};
+use q_base::{Code, Mode, NoMemory, Stop, Work, refusal};
+use sql_reader::read_command;
 use sql_tokens::tokens;
+use sql_tree::Command;
 use std::alloc::Global;
 use std::marker::Model;
 use std::sync::ledger::Ledger;
@@ -95,8 +96,9 @@ impl Session {
         ensures refused { IfErr result (StopsBy (λ error. (out.new.items ≡ out.old.items) × Performs self.old.state command Done.Refused (error_lines error) self.new.state)) }
     {
         match command {
-            Command::Prepare { name, digits } => self.prepare(name, digits.as_str(), out),
-            Command::Execute { name } => self.execute(name.as_str(), out),
+            Command::Prepare(tree) => self.prepare(tree, out),
+            Command::Execute(tree) => self.execute(tree, out),
+            _ => Err(refusal(self.alloc, Code::NotBuilt)),
         }
     }
 }
