@@ -1,3 +1,6 @@
+ghost use Rattle.std.specs.Prelude.{◌≡◌, ◌↔◌, Contains, IfOk};
+ghost use Rattle.query_tree.specs.Items.{relation_of, ids_of};
+
 use crate::{CondList, ResultColumn, Target, TargetList};
 use q_base::{IdList, ListOf, NoMemory, ObjId, Str};
 use q_value::SqlType;
@@ -86,7 +89,9 @@ pub struct Query {
 }
 
 /// The ids of the tables and views that a query's items name.
-pub fn direct(alloc: Global, query: &Query) -> Result<IdList, NoMemory> {
+pub fn direct(alloc: Global, query: &Query) -> Result<IdList, NoMemory>
+    ensures { IfOk result (λ ids. (id : ObjId) → Contains ids id ↔ Contains (ids_of query.now) id) }
+{
     let mut ids = IdList::new(alloc);
     for item in query.items.as_slice() {
         ids.push(item.relation().id)?;
@@ -96,7 +101,9 @@ pub fn direct(alloc: Global, query: &Query) -> Result<IdList, NoMemory> {
 
 impl Item {
     /// The table or view that the item names.
-    pub fn relation(&self) -> &Relation {
+    pub fn relation(&self) -> &Relation
+        ensures { result.now ≡ relation_of self.now }
+    {
         match self {
             Item::Table(relation) | Item::View(relation) | Item::Derived(relation, _) => relation,
         }

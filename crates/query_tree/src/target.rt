@@ -1,6 +1,10 @@
-use q_base::{ColId, ListOf};
+ghost use Rattle.std.specs.Prelude.{◌≡◌, map, IfOk};
+ghost use Rattle.query_tree.specs.Targets.{target_kind, any_of, is_fallible};
+
+use q_base::{ColId, ListOf, NoMemory};
 use q_value::{SqlType, Value};
 use sqlite_items::{Boxed, Items};
+use std::alloc::Global;
 
 /// The operators of comparison: `= <> < <= > >=`.
 #[derive(Clone, Copy, Debug, PartialEq, Eq)]
@@ -75,3 +79,105 @@ pub type Cond = Target;
 
 /// Conditions that hold together, in the order of the text.
 pub type CondList = ListOf<Cond>;
+
+impl Target {
+    /// The type of the target's values.
+    pub fn kind(&self) -> SqlType
+        ensures { result ≡ target_kind self.now }
+    {
+        match self {
+            Target::Const(kind, _)
+            | Target::Param(kind, _)
+            | Target::Column(kind, _)
+            | Target::Aggregate(kind, _)
+            | Target::Arithmetic(_, kind, _, _)
+            | Target::Negate(kind, _) => *kind,
+            Target::Compare(_, _, _)
+            | Target::IsNull(_, _)
+            | Target::Not(_)
+            | Target::And(_)
+            | Target::Or(_) => SqlType::Bool,
+        }
+    }
+
+    /// Tells whether the target holds arithmetic, without which it can't fault.
+    #[cycle(fallible)]
+    pub fn is_fallible(&self) -> bool
+        ensures { result ≡ is_fallible self.now }
+    {
+        match self {
+            Target::Const(_, _)
+            | Target::Param(_, _)
+            | Target::Column(_, _)
+            | Target::Aggregate(_, _) => false,
+            Target::Arithmetic(_, _, _, _) | Target::Negate(_, _) => true,
+            Target::Compare(_, left, right) => {
+                left.get().is_fallible() || right.get().is_fallible()
+            }
+            Target::IsNull(operand, _) | Target::Not(operand) => operand.get().is_fallible(),
+            Target::And(operands) | Target::Or(operands) => any_fallible(operands.as_slice()),
+        }
+    }
+
+    /// A second owner of the same target.
+    #[cycle(copy)]
+    pub fn copy(&self, alloc: Global) -> Result<Target, NoMemory>
+        ensures { IfOk result (λ target. target ≡ self.now) }
+    {
+        match self {
+            Target::Const(kind, value) => Ok(Target::Const(*kind, value.copy(alloc)?)),
+            Target::Param(kind, number) => Ok(Target::Param(*kind, *number)),
+            Target::Column(kind, column) => Ok(Target::Column(*kind, *column)),
+            Target::Aggregate(kind, aggregate) => Ok(Target::Aggregate(*kind, *aggregate)),
+            Target::Arithmetic(op, kind, left, right) => {
+                let left = copy_boxed(alloc, left)?;
+                let right = copy_boxed(alloc, right)?;
+                Ok(Target::Arithmetic(*op, *kind, left, right))
+            }
+            Target::Negate(kind, operand) => {
+                Ok(Target::Negate(*kind, copy_boxed(alloc, operand)?))
+            }
+            Target::Compare(op, left, right) => {
+                let left = copy_boxed(alloc, left)?;
+                let right = copy_boxed(alloc, right)?;
+                Ok(Target::Compare(*op, left, right))
+            }
+            Target::IsNull(operand, negated) => {
+                Ok(Target::IsNull(copy_boxed(alloc, operand)?, *negated))
+            }
+            Target::Not(operand) => Ok(Target::Not(copy_boxed(alloc, operand)?)),
+            Target::And(operands) => Ok(Target::And(copy_operands(alloc, operands)?)),
+            Target::Or(operands) => Ok(Target::Or(copy_operands(alloc, operands)?)),
+        }
+    }
+}
+
+#[cycle(fallible)]
+fn any_fallible(targets: &[Target]) -> bool
+    ensures { result ≡ any_of (map is_fallible targets.now) }
+{
+    for target in targets {
+        if target.is_fallible() {
+            return true;
+        }
+    }
+    false
+}
+
+#[cycle(copy)]
+fn copy_boxed(alloc: Global, target: &Boxed<Target>) -> Result<Boxed<Target>, NoMemory>
+    ensures { IfOk result (λ copy. copy ≡ target.now) }
+{
+    Ok(Boxed::new(alloc, target.get().copy(alloc)?)?)
+}
+
+#[cycle(copy)]
+fn copy_operands(alloc: Global, targets: &Items<Target>) -> Result<Items<Target>, NoMemory>
+    ensures { IfOk result (λ copies. copies ≡ targets.now) }
+{
+    let mut copies = Items::new(alloc);
+    for target in targets.as_slice() {
+        copies.push(target.copy(alloc)?)?;
+    }
+    Ok(copies)
+}
