@@ -122,10 +122,14 @@ either left right = None
 abbrev pub negation : Option Bool → Option Bool
 negation truth = option_map not truth
 
--- a truth value and the operands after it, from left to right; the first fault stands
-abbrev pub joined : (Option Bool → Option Bool → Option Bool) → Option Bool → List (Result Value Code) → Result Value Code
-joined connective truth [] = Ok (truth_value truth)
+-- a truth value joined with the operands after it, from left to right; the first fault stands
+abbrev pub joined : (Option Bool → Option Bool → Option Bool) → Option Bool → List (Result Value Code) → Result (Option Bool) Code
+joined connective truth [] = Ok truth
 joined connective truth (operand ∷ operands) = then_with operand (λ found. joined connective (connective truth (truth_in found)) operands)
+
+-- a truth value or a fault as a value or a fault
+abbrev pub truth_outcome : Result (Option Bool) Code → Result Value Code
+truth_outcome truth = then_with truth (λ found. Ok (truth_value found))
 
 -- one node, with the value or the fault of each operand in its place
 abbrev pub node_value : List Value → List Value → Target-F (Result Value Code) → Result Value Code
@@ -138,14 +142,18 @@ node_value row params (Target-F.Negate kind operand) = then_with operand (λ fou
 node_value row params (Target-F.Compare op left right) = then_with left (λ l. then_with right (λ r. Ok (truth_value (comparison op l r))))
 node_value row params (Target-F.IsNull operand negated) = then_with operand (λ found. Ok (value.Bool (null_test negated found)))
 node_value row params (Target-F.Not operand) = then_with operand (λ found. Ok (truth_value (negation (truth_in found))))
-node_value row params (Target-F.And operands) = joined both (Some true) operands
-node_value row params (Target-F.Or operands) = joined either (Some false) operands
+node_value row params (Target-F.And operands) = truth_outcome (joined both (Some true) operands)
+node_value row params (Target-F.Or operands) = truth_outcome (joined either (Some false) operands)
 
 -- the value of a target, or its first fault; operands go from left to right, all of them
 abbrev pub value_of : Target → List Value → List Value → Result Value Code
 value_of target row params = fold-Target (Result Value Code) (node_value row params) target
 
--- the truth value of an outcome, where a fault counts as unknown
+-- the truth value of a value, or its fault
+abbrev pub truth_or_fault : Result Value Code → Result (Option Bool) Code
+truth_or_fault outcome = then_with outcome (λ found. Ok (truth_in found))
+
+-- the truth value of a value, where a fault counts as unknown
 abbrev pub truth_or_unknown : Result Value Code → Option Bool
 truth_or_unknown (Ok found) = truth_in found
 truth_or_unknown (Err code) = None

@@ -1,10 +1,8 @@
 -- The items of a query, and the row of their product.
-use Rattle.std.specs.Prelude.{ℕ, ◌+◌, Option, None, Some, List, [], ◌∷◌, ◌++◌, map, length, take, option_map}
+use Rattle.std.specs.Prelude.{ℕ, Option, List, map, length, take, option_map}
 use Rattle.std.specs.List.{flat_map}
 use Rattle.q_base.specs.declared.ids.ObjId.{ObjId}
-use Rattle.q_base.specs.IdLists.{with_id}
 use Rattle.q_value.specs.declared.value.SqlType.{SqlType}
-use Rattle.query_tree.specs.declared.result.ResultColumn.{ResultColumn}
 use Rattle.query_tree.specs.declared.query.Relation.{Relation}
 use Rattle.query_tree.specs.declared.query.Item.{Item, out-Item}
 use Rattle.query_tree.specs.declared.query.Item.TheOpen.{Item-F}

@@ -1,5 +1,5 @@
 -- Which targets are typed, over the types of a row and of the parameters.
-use Rattle.std.specs.Prelude.{ℕ, zero, suc, Bool, true, false, ◌≡◌, Option, None, Some, List, [], ◌∷◌, slice_get, if◌then◌else◌, IsTrue}
+use Rattle.std.specs.Prelude.{ℕ, zero, suc, Bool, true, false, ◌≡◌, Option, None, Some, List, [], ◌∷◌, slice_get, if◌then◌else◌}
 use Rattle.std.specs.List.{list_all}
 use Rattle.std.specs.Option.{option_and_then, option_map_or}
 use Rattle.q_value.specs.declared.value.SqlType.{SqlType}

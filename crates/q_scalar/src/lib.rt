@@ -1,0 +1,10 @@
+//! Operators of SQL, and the evaluation of conditions and targets over a row.
+#![tactic(auto)]
+
+mod arithmetic;
+mod comparison;
+mod eval;
+mod held;
+mod logic;
+
+pub use eval::{EvalStop, eval_cond, eval_fallible, eval_target};
