@@ -6,5 +6,7 @@ mod comparison;
 mod eval;
 mod held;
 mod logic;
+mod operators;
 
 pub use eval::{EvalStop, eval_cond, eval_fallible, eval_target};
+pub use operators::{Op, OpRow, find_op};
