@@ -1,0 +1,144 @@
+ghost use Rattle.std.specs.Prelude.{◌≡◌, map, true, false, Some};
+ghost use Rattle.query_tree.specs.Evaluation as spec;
+ghost use Rattle.q_scalar.specs.Held.{outcome_value};
+ghost use Rattle.q_scalar.specs.Stops.{Gives};
+
+use crate::arithmetic::{compute, negate};
+use crate::comparison::compare;
+use crate::held::{Held, held_at, held_param, truth_held};
+use crate::logic::{both, either, negation};
+use q_base::{Code, NoMemory};
+use q_value::Value;
+use query_tree::{Cond, Target};
+use std::alloc::Global;
+
+/// Why a target has no value: a fault of its own, or want of memory.
+#[derive(Clone, Copy, Debug, PartialEq, Eq)]
+pub enum EvalStop {
+    Fault(Code),
+    NoMemory,
+}
+
+impl From<NoMemory> for EvalStop {
+    ghost use Rattle.std.specs.Prelude.{◌≡◌};
+    ghost use Rattle.q_scalar.specs.declared.eval.EvalStop.TheVariants as stop;
+
+    ghost from_gives = { λ _ e. e ≡ stop.NoMemory };
+
+    fn from(_: NoMemory) -> EvalStop {
+        EvalStop::NoMemory
+    }
+}
+
+/// The truth value of a condition over a row and the values of the parameters, `None` where it is unknown.
+/// Of a condition that holds arithmetic and faults, which `eval_fallible` tells, it answers `None` too.
+pub fn eval_cond(cond: &Cond, row: &[Value], params: &[Value]) -> Option<bool>
+    ensures { result ≡ spec.truth_of cond.now row.now params.now }
+{
+    match outcome(cond, row, params) {
+        Ok(held) => held.truth(),
+        Err(_) => None,
+    }
+}
+
+/// The truth value of a condition that may hold arithmetic, `None` where it is unknown, or its first fault.
+pub fn eval_fallible(cond: &Cond, row: &[Value], params: &[Value]) -> Result<Option<bool>, Code>
+    ensures { result ≡ spec.truth_or_fault (spec.value_of cond.now row.now params.now) }
+{
+    let held = outcome(cond, row, params)?;
+    Ok(held.truth())
+}
+
+/// The value of a target over a row and the values of the parameters, or its first fault.
+pub fn eval_target(
+    alloc: Global,
+    target: &Target,
+    row: &[Value],
+    params: &[Value],
+) -> Result<Value, EvalStop>
+    ensures { Gives (spec.value_of target.now row.now params.now) result }
+{
+    match outcome(target, row, params) {
+        Ok(Held::Lent(value)) => Ok(value.copy(alloc)?),
+        Ok(Held::Made(value)) => Ok(value),
+        Err(code) => Err(EvalStop::Fault(code)),
+    }
+}
+
+/// The value of a target, lent where it stands somewhere already. It takes no memory.
+#[cycle(eval)]
+fn outcome<'a>(target: &'a Target, row: &'a [Value], params: &'a [Value]) -> Result<Held<'a>, Code>
+    ensures { outcome_value result ≡ spec.value_of target.now row.now params.now }
+{
+    match target {
+        Target::Const(_, constant) => Ok(Held::Lent(constant)),
+        Target::Param(_, number) => Ok(held_param(params, *number)),
+        Target::Column(_, column) => Ok(held_at(row, column.place)),
+        Target::Aggregate(_, aggregate) => Ok(held_at(row, aggregate.place)),
+        Target::Arithmetic(op, kind, left, right) => {
+            let left = outcome(left.get(), row, params)?;
+            let right = outcome(right.get(), row, params)?;
+            Ok(Held::Made(compute(*op, *kind, left.value(), right.value())?))
+        }
+        Target::Negate(kind, operand) => {
+            let operand = outcome(operand.get(), row, params)?;
+            Ok(Held::Made(negate(*kind, operand.value())?))
+        }
+        Target::Compare(op, left, right) => {
+            let left = outcome(left.get(), row, params)?;
+            let right = outcome(right.get(), row, params)?;
+            Ok(truth_held(compare(*op, left.value(), right.value())))
+        }
+        Target::IsNull(operand, negated) => {
+            let operand = outcome(operand.get(), row, params)?;
+            Ok(Held::Made(Value::Bool(null_test(*negated, operand.value()))))
+        }
+        Target::Not(operand) => {
+            let operand = outcome(operand.get(), row, params)?;
+            Ok(truth_held(negation(operand.truth())))
+        }
+        Target::And(operands) => truth_outcome(conjunction(operands.as_slice(), row, params)),
+        Target::Or(operands) => truth_outcome(disjunction(operands.as_slice(), row, params)),
+    }
+}
+
+/// A truth value or a fault as the outcome of a target.
+fn truth_outcome<'a>(truth: Result<Option<bool>, Code>) -> Result<Held<'a>, Code>
+    ensures { outcome_value result ≡ spec.truth_outcome truth }
+{
+    Ok(truth_held(truth?))
+}
+
+/// IS NULL, or IS NOT NULL.
+fn null_test(negated: bool, operand: &Value) -> bool
+    ensures { result ≡ spec.null_test negated operand.now }
+{
+    match operand {
+        Value::Null => !negated,
+        _ => negated,
+    }
+}
+
+/// AND of all operands, each of which is evaluated, so that a fault stands.
+#[cycle(eval)]
+fn conjunction(operands: &[Target], row: &[Value], params: &[Value]) -> Result<Option<bool>, Code>
+    ensures { result ≡ spec.joined spec.both (Some true) (map (λ operand. spec.value_of operand row.now params.now) operands.now) }
+{
+    let mut truth = Some(true);
+    for operand in operands {
+        truth = both(truth, outcome(operand, row, params)?.truth());
+    }
+    Ok(truth)
+}
+
+/// OR of all operands, each of which is evaluated, so that a fault stands.
+#[cycle(eval)]
+fn disjunction(operands: &[Target], row: &[Value], params: &[Value]) -> Result<Option<bool>, Code>
+    ensures { result ≡ spec.joined spec.either (Some false) (map (λ operand. spec.value_of operand row.now params.now) operands.now) }
+{
+    let mut truth = Some(false);
+    for operand in operands {
+        truth = either(truth, outcome(operand, row, params)?.truth());
+    }
+    Ok(truth)
+}

@@ -1,0 +1,4 @@
+pub mod Evaluation
+pub mod Items
+pub mod Targets
+pub mod Typing
