@@ -4,4 +4,3 @@ pub mod Prepared
 pub mod Seen
 pub mod Selected
 pub mod State
-pub mod Texts

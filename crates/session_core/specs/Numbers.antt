@@ -1,4 +1,5 @@
-use Rattle.std.specs.Prelude.{ℕ, ◌+◌, ◌-◌, ◌*◌, nat_le, List, [], ◌∷◌, Option, None, Some, option_and_then, if◌then◌else◌}
+use Rattle.std.specs.Prelude.{ℕ, ◌+◌, ◌-◌, ◌*◌, nat_le, codes, List, [], ◌∷◌, ◌++◌, Option, None, Some, option_and_then, if◌then◌else◌}
+use Rattle.std.specs.Fmt.{decimal}
 
 -- the number that the decimal digits write after those of n
 abbrev pub decimal_after : ℕ → List ℕ → ℕ
@@ -17,3 +18,7 @@ number_of digits = as_bigint (decimal_after 0 digits)
 abbrev pub number_after : ℕ → List ℕ → Option ℕ
 number_after n [] = Some n
 number_after n (d ∷ digits) = option_and_then (λ m. number_after m digits) (as_bigint (n * 10 + (d - 48)))
+
+-- what is printed for the one row of a number
+unfoldable pub number_lines : ℕ → List ℕ
+number_lines number = codes "?column?\n" ++ decimal number ++ codes "\n(1 row)\n"

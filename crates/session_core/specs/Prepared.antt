@@ -4,10 +4,9 @@ use Rattle.q_base.specs.declared.code.Code.TheVariants.{BigintOutOfRange, Duplic
 use Rattle.session_core.specs.declared.session.Done.{Done}
 use Rattle.sql_tree.specs.declared.prepared.ExecuteTree.{ExecuteTree}
 use Rattle.sql_tree.specs.declared.prepared.PrepareTree.{PrepareTree}
-use Rattle.session_core.specs.Numbers.{number_of}
+use Rattle.session_core.specs.Numbers.{number_of, number_lines}
 use Rattle.session_core.specs.Selected.{is_empty, selected_digits}
 use Rattle.session_core.specs.State.{State, Statement, Refuses, Succeeds}
-use Rattle.session_core.specs.Texts.{number_lines}
 
 -- the number that the statement of a name selects
 abbrev pub kept : List Statement → List ℕ → Option ℕ

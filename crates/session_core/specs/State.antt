@@ -3,7 +3,7 @@ use Rattle.q_base.specs.declared.errors.SqlError.{SqlError}
 use Rattle.q_base.specs.declared.settings.Mode.{Mode}
 use Rattle.session_core.specs.declared.session.Done.{Done}
 use Rattle.session_core.specs.declared.session.Done.TheVariants as done
-use Rattle.session_core.specs.Texts.{error_lines}
+use Rattle.result_text.specs.Messages.{error_line}
 
 -- a prepared statement: its name, and the number that it selects
 pub record Statement : Type 0 where
@@ -20,7 +20,7 @@ empty_state mode = record { mode = mode; statements = [] }
 
 -- a refusal: its text is the output, and the state stays
 abbrev pub Refuses : State → SqlError → Done → List ℕ → State → Type 0
-Refuses state error end output state2 = (end ≡ done.Refused) × (output ≡ error_lines error) × (state2 ≡ state)
+Refuses state error end output state2 = (end ≡ done.Refused) × (output ≡ error_line error) × (state2 ≡ state)
 
 -- no refusal: that output, and that state after
 abbrev pub Succeeds : List ℕ → State → Done → List ℕ → State → Type 0

@@ -2,7 +2,6 @@
 #![tactic(auto)]
 
 mod numbers;
-mod result_text;
 mod selected;
 mod session;
 mod statements;

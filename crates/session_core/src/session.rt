@@ -2,13 +2,13 @@ ghost use Rattle.std.specs.Prelude.{◌≡◌, ◌++◌, ◌+◌, ◌^◌, ◌<�
 ghost use Rattle.q_base.specs.Stops.{StopsBy};
 ghost use Rattle.session_core.specs.State.{empty_state};
 ghost use Rattle.session_core.specs.Machine.{Step, Performs};
-ghost use Rattle.session_core.specs.Texts.{error_lines};
+ghost use Rattle.result_text.specs.Messages.{error_line};
 
 mod prepared;
 
-use crate::result_text::error_text;
 use crate::statements::Statements;
 use q_base::{Code, Mode, NoMemory, Stop, Work, refusal};
+use result_text::error_text;
 use sql_reader::read_command;
 use sql_tokens::tokens;
 use sql_tree::Command;
@@ -83,7 +83,7 @@ impl Session {
     fn perform(&mut self, text: &str, out: &mut Vec<u8>) -> Result<(), Stop>
         ensures ran { self.new.ran ≡ self.old.ran }
         ensures done { OnOk result ((output : List ℕ) × (out.new.items ≡ out.old.items ++ output) × Step self.old.state text.now Done.Ok output self.new.state) }
-        ensures refused { IfErr result (StopsBy (λ error. (out.new.items ≡ out.old.items) × Step self.old.state text.now Done.Refused (error_lines error) self.new.state)) }
+        ensures refused { IfErr result (StopsBy (λ error. (out.new.items ≡ out.old.items) × Step self.old.state text.now Done.Refused (error_line error) self.new.state)) }
     {
         let tokens = tokens(self.alloc, text)?;
         let command = read_command(self.alloc, tokens.as_slice())?;
@@ -93,7 +93,7 @@ impl Session {
     fn run(&mut self, command: Command, out: &mut Vec<u8>) -> Result<(), Stop>
         ensures ran { self.new.ran ≡ self.old.ran }
         ensures done { OnOk result ((output : List ℕ) × (out.new.items ≡ out.old.items ++ output) × Performs self.old.state command Done.Ok output self.new.state) }
-        ensures refused { IfErr result (StopsBy (λ error. (out.new.items ≡ out.old.items) × Performs self.old.state command Done.Refused (error_lines error) self.new.state)) }
+        ensures refused { IfErr result (StopsBy (λ error. (out.new.items ≡ out.old.items) × Performs self.old.state command Done.Refused (error_line error) self.new.state)) }
     {
         match command {
             Command::Prepare(tree) => self.prepare(tree, out),

@@ -2,11 +2,10 @@ ghost use Rattle.std.specs.Prelude.{◌≡◌, ◌++◌, ℕ, List, IfErr, OnOk}
 ghost use Rattle.q_base.specs.Stops.{StopsBy};
 ghost use Rattle.session_core.specs.declared.session.Done.TheVariants as Done;
 ghost use Rattle.session_core.specs.Prepared.{Prepares, Executes};
-ghost use Rattle.session_core.specs.Texts.{error_lines};
+ghost use Rattle.result_text.specs.Messages.{error_line};
 
 use super::Session;
-use crate::numbers::number_of;
-use crate::result_text::{append, number_text};
+use crate::numbers::{append, number_of, number_text};
 use crate::selected::selected_digits;
 use q_base::{Code, Stop, refusal, refusal_naming};
 use sql_tree::{ExecuteTree, PrepareTree};
@@ -16,7 +15,7 @@ impl Session {
     pub fn prepare(&mut self, tree: PrepareTree, out: &mut Vec<u8>) -> Result<(), Stop>
         ensures ran { self.new.ran ≡ self.old.ran }
         ensures done { OnOk result ((output : List ℕ) × (out.new.items ≡ out.old.items ++ output) × Prepares self.old.state tree Done.Ok output self.new.state) }
-        ensures refused { IfErr result (StopsBy (λ error. (out.new.items ≡ out.old.items) × Prepares self.old.state tree Done.Refused (error_lines error) self.new.state)) }
+        ensures refused { IfErr result (StopsBy (λ error. (out.new.items ≡ out.old.items) × Prepares self.old.state tree Done.Refused (error_line error) self.new.state)) }
     {
         let Some(digits) = selected_digits(&tree) else {
             return Err(refusal(self.alloc, Code::NotBuilt));
@@ -36,7 +35,7 @@ impl Session {
     pub fn execute(&mut self, tree: ExecuteTree, out: &mut Vec<u8>) -> Result<(), Stop>
         ensures ran { self.new.ran ≡ self.old.ran }
         ensures done { OnOk result ((output : List ℕ) × (out.new.items ≡ out.old.items ++ output) × Executes self.old.state tree Done.Ok output self.new.state) }
-        ensures refused { IfErr result (StopsBy (λ error. (out.new.items ≡ out.old.items) × Executes self.old.state tree Done.Refused (error_lines error) self.new.state)) }
+        ensures refused { IfErr result (StopsBy (λ error. (out.new.items ≡ out.old.items) × Executes self.old.state tree Done.Refused (error_line error) self.new.state)) }
     {
         if !tree.arguments.as_slice().is_empty() {
             return Err(refusal(self.alloc, Code::NotBuilt));
