@@ -9,7 +9,7 @@ use Rattle.sql_tree.specs.declared.statement.Statement.TheVariants as statement
 use Rattle.sql_expr.specs.Reading.{Parser, ◌>>=◌, ◌>>◌, ◌<$>◌, pure, eat_word, expect_word}
 use Rattle.sql_expr.specs.Names.{name}
 use Rattle.sql_reader_query.specs.Names.{relation, parenthesized_names, optional_names}
-use Rattle.sql_reader_query.specs.Queries.{select}
+use Rattle.sql_reader_query.specs.Query.{select}
 use Rattle.sql_reader_catalog.specs.Tables.{table, temp_table}
 
 -- `TEMP | TEMPORARY`, if one of them comes next

@@ -44,6 +44,7 @@ pub(crate) fn skip_column_of_alter(cursor: &mut Cursor<'_>)
 }
 
 /// Whether a change of a column begins: TYPE with a name, SET, or DROP with DEFAULT or NOT.
+#[tactic(auto, unfolding(crate::specs::Keywords::sees_change))]
 fn sees_change(cursor: &Cursor<'_>) -> bool
     ensures { result ≡ spec.sees_change cursor.now }
 {
