@@ -1,0 +1,7 @@
+pub mod Alteration
+pub mod Columns
+pub mod Constants
+pub mod Creation
+pub mod Keywords
+pub mod Removal
+pub mod Tables
