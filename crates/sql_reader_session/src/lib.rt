@@ -20,6 +20,5 @@ pub use lines::backslash_line;
 pub use prepared::{deallocate, discard, execute, explain, prepare};
 pub use settings::{reset, set, show};
 
-
 #[cfg(test)]
 mod tests;

@@ -90,11 +90,7 @@ fn eat_direction(cursor: &mut Cursor<'_>) -> Option<Direction>
 }
 
 /// The motion of which the direction was read.
-fn directed(
-    alloc: Global,
-    cursor: &mut Cursor<'_>,
-    direction: Direction,
-) -> Result<Motion, Stop>
+fn directed(alloc: Global, cursor: &mut Cursor<'_>, direction: Direction) -> Result<Motion, Stop>
     ensures { Reads (spec.directed direction cursor.old) result cursor.new }
 {
     match direction {

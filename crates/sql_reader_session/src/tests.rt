@@ -262,13 +262,18 @@ fn show_execute(out: &mut String, tree: &ExecuteTree) -> Result<(), AllocError> 
     out.push(')')
 }
 
+fn show_where(out: &mut String, holds: bool, text: &str) -> Result<(), AllocError> {
+    if holds { out.push_str(text) } else { Ok(()) }
+}
+
 fn show_declare(out: &mut String, tree: &DeclareTree) -> Result<(), AllocError> {
     out.push_str(tree.name.as_str())?;
-    out.push_str(if tree.options.scroll { " scroll" } else { "" })?;
-    out.push_str(if tree.options.no_scroll { " no-scroll" } else { "" })?;
-    out.push_str(if tree.options.insensitive { " insensitive" } else { "" })?;
-    out.push_str(if tree.options.asensitive { " asensitive" } else { "" })?;
-    out.push_str(if tree.hold { " hold " } else { " " })?;
+    show_where(out, tree.options.scroll, " scroll")?;
+    show_where(out, tree.options.no_scroll, " no-scroll")?;
+    show_where(out, tree.options.insensitive, " insensitive")?;
+    show_where(out, tree.options.asensitive, " asensitive")?;
+    show_where(out, tree.hold, " hold")?;
+    out.push(' ')?;
     show_statement(out, &tree.query)
 }
 
