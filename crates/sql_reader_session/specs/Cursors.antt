@@ -11,7 +11,7 @@ use Rattle.sql_tree.specs.declared.cursors.FetchTree.{FetchTree}
 use Rattle.sql_tree.specs.declared.statement.Statement.TheVariants as statement
 use Rattle.sql_expr.specs.Reading.{Text, Parser, ◌>>=◌, ◌>>◌, ◌<$>◌, pure, taken, goes_on, eat_word, expect_word}
 use Rattle.sql_expr.specs.Names.{name}
-use Rattle.sql_reader_query.specs.Select.{select}
+use Rattle.sql_reader_query.specs.Query.{select}
 use Rattle.sql_reader_session.specs.declared.cursors.CursorOption.{CursorOption}
 use Rattle.sql_reader_session.specs.declared.cursors.CursorOption.TheVariants.{Scroll, NoScroll, Insensitive, Asensitive}
 use Rattle.sql_reader_session.specs.Keywords.{eat_either}
