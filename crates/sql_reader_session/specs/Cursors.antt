@@ -31,8 +31,8 @@ option_of _ = None
 -- `[SCROLL | NO SCROLL | INSENSITIVE | ASENSITIVE]`
 unfoldable pub cursor_option : Parser (Option CursorOption)
 cursor_option = do
-  no ← eat_word (codes "no")
-  if no then expect_word (codes "scroll") >> pure (Some NoScroll) else taken option_of
+  negated ← eat_word (codes "no")
+  if negated then expect_word (codes "scroll") >> pure (Some NoScroll) else taken option_of
 
 abbrev pub no_options : CursorOptions
 no_options = record { scroll = false; no_scroll = false; insensitive = false; asensitive = false }
