@@ -15,29 +15,29 @@ use Rattle.savepoints.specs.declared.given.Choice.TheVariants as choice
 use Rattle.savepoints.specs.declared.given.Given.{Given}
 use Rattle.savepoints.specs.declared.given.Given.TheVariants as given
 use Rattle.savepoints.specs.declared.given.Name.{Name}
-use Rattle.savepoints.specs.declared.given.Name.TheVariants as name
+use Rattle.savepoints.specs.declared.given.Name.TheVariants as names
 use Rattle.savepoints.specs.declared.given.Switch.{Switch}
 use Rattle.savepoints.specs.declared.given.Switch.TheVariants as switch
 
 -- the setting of a name
 abbrev pub named : List ℕ → Option Name
 named text =
-    if bytes_eq text (codes "search_path") then Some name.SearchPath else
-    (if bytes_eq text (codes "plan_cache_mode") then Some name.PlanCacheMode else
-    (if bytes_eq text (codes "enable_seqscan") then Some (name.Switch switch.Seqscan) else
-    (if bytes_eq text (codes "enable_indexscan") then Some (name.Switch switch.Indexscan) else
-    (if bytes_eq text (codes "enable_hashjoin") then Some (name.Switch switch.Hashjoin) else
-    (if bytes_eq text (codes "enable_nestloop") then Some (name.Switch switch.Nestloop) else
-    (if bytes_eq text (codes "enable_sort") then Some (name.Switch switch.Sort) else None))))))
+    if bytes_eq text (codes "search_path") then Some names.SearchPath else
+    (if bytes_eq text (codes "plan_cache_mode") then Some names.PlanCacheMode else
+    (if bytes_eq text (codes "enable_seqscan") then Some (names.Switch switch.Seqscan) else
+    (if bytes_eq text (codes "enable_indexscan") then Some (names.Switch switch.Indexscan) else
+    (if bytes_eq text (codes "enable_hashjoin") then Some (names.Switch switch.Hashjoin) else
+    (if bytes_eq text (codes "enable_nestloop") then Some (names.Switch switch.Nestloop) else
+    (if bytes_eq text (codes "enable_sort") then Some (names.Switch switch.Sort) else None))))))
 
 abbrev pub default_path : List (List ℕ)
 default_path = codes "public" ∷ []
 
 -- the value that a setting has where nothing has set it
 abbrev pub default_of : Name → Mode → Given
-default_of name.SearchPath default_mode = given.Path default_path
-default_of name.PlanCacheMode default_mode = given.Choice (choice.Mode default_mode)
-default_of (name.Switch switch) default_mode = given.Choice (choice.Switch switch true)
+default_of names.SearchPath default_mode = given.Path default_path
+default_of names.PlanCacheMode default_mode = given.Choice (choice.Mode default_mode)
+default_of (names.Switch switch) default_mode = given.Choice (choice.Switch switch true)
 
 -- each value names a schema
 abbrev pub path_of : List Setting → List (List ℕ)
@@ -66,9 +66,9 @@ switch_truth written = if written.number then number_truth (integer_of (bare_tex
 
 -- what one value means for a setting other than search_path
 abbrev pub choice_of : Name → Setting → Option Choice
-choice_of name.SearchPath written = None
-choice_of name.PlanCacheMode written = option_map choice.Mode (mode_of written)
-choice_of (name.Switch switch) written = option_map (choice.Switch switch) (switch_truth written)
+choice_of names.SearchPath written = None
+choice_of names.PlanCacheMode written = option_map choice.Mode (mode_of written)
+choice_of (names.Switch switch) written = option_map (choice.Switch switch) (switch_truth written)
 
 -- such a setting takes one value
 abbrev pub only_choice : Name → List Setting → Option Choice
@@ -87,7 +87,7 @@ invalid name text = record { code = InvalidSettingValue; args = name ∷ text �
 
 -- the value that is written for a setting, or its refusal
 abbrev pub from_written : List ℕ → Name → List Setting → Result Given SqlError
-from_written name name.SearchPath written = Ok (given.Path (path_of written))
+from_written name names.SearchPath written = Ok (given.Path (path_of written))
 from_written name setting written = or_error (invalid name (bad_text written)) (option_map given.Choice (only_choice setting written))
 
 -- the value that SET gives a setting, or its refusal

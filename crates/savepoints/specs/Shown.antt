@@ -9,7 +9,7 @@ use Rattle.q_base.specs.declared.settings.Mode.{Mode}
 use Rattle.q_base.specs.declared.settings.Mode.TheVariants as mode
 use Rattle.q_base.specs.declared.settings.Switches.{Switches}
 use Rattle.savepoints.specs.declared.given.Name.{Name}
-use Rattle.savepoints.specs.declared.given.Name.TheVariants as name
+use Rattle.savepoints.specs.declared.given.Name.TheVariants as names
 use Rattle.savepoints.specs.declared.given.Switch.{Switch}
 use Rattle.savepoints.specs.declared.given.Switch.TheVariants as switch
 use Rattle.savepoints.specs.Given.{named}
@@ -79,9 +79,9 @@ shown_path (name ∷ names) = shown_name name ++ shown_more names
 
 -- the value of a setting
 abbrev pub shown : Name → Values → List ℕ
-shown name.SearchPath values = shown_path values.path
-shown name.PlanCacheMode values = mode_word values.choices.mode
-shown (name.Switch switch) values = switch_word (is_on switch values.choices.switches)
+shown names.SearchPath values = shown_path values.path
+shown names.PlanCacheMode values = mode_word values.choices.mode
+shown (names.Switch switch) values = switch_word (is_on switch values.choices.switches)
 
 -- the value of the setting of a name, after what was there
 abbrev pub shown_named : List ℕ → List ℕ → Values → Option Name → Result (List ℕ) SqlError

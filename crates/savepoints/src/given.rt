@@ -207,13 +207,23 @@ fn text_truth(alloc: Global, text: &str) -> Result<Option<bool>, NoMemory>
     }
 }
 
+#[tactic(auto, using(crate::proofs::Numbers::number_of_parsed))]
 fn number_truth(alloc: Global, text: &str) -> Result<Option<bool>, NoMemory>
     ensures { IfOk result (λ truth. truth ≡ spec.number_truth (integer_of (bare_text text.now))) }
 {
     match parse_value(alloc, text, SqlType::Int8) {
-        Ok(Value::Int8(0)) => Ok(Some(false)),
-        Ok(Value::Int8(1)) => Ok(Some(true)),
-        Ok(_) | Err(Stop::Sql(_)) => Ok(None),
+        Ok(value) => Ok(zero_or_one(value.number())),
+        Err(Stop::Sql(_)) => Ok(None),
         Err(Stop::NoMemory) => Err(NoMemory),
+    }
+}
+
+fn zero_or_one(number: Option<i64>) -> Option<bool>
+    ensures { result ≡ spec.number_truth number }
+{
+    match number {
+        Some(0) => Some(false),
+        Some(1) => Some(true),
+        _ => None,
     }
 }

@@ -129,6 +129,7 @@ fn append_doubled(bytes: &[u8], out: &mut Vec<u8>) -> Result<(), NoMemory>
 }
 
 /// Whether a name is shown without quotes.
+#[tactic(auto, unfolding(crate::specs::Shown::is_plain))]
 fn is_plain(name: &str) -> bool
     ensures { result ≡ spec.is_plain name.now }
 {
@@ -156,10 +157,11 @@ fn is_name_byte(byte: u8) -> bool
     byte.is_ascii_lowercase() || byte.is_ascii_digit() || byte == b'_'
 }
 
+#[tactic(auto, unfolding(crate::specs::Shown::is_reserved))]
 fn is_reserved(name: &str) -> bool
     ensures { result ≡ spec.is_reserved name.now }
 {
-    RESERVED.iter().any(|word| *word == name)
+    RESERVED.contains(&name)
 }
 
 /// Appends bytes as they are.
