@@ -1,1 +1,3 @@
+mod Marks
+mod Numbers
 mod Stacks

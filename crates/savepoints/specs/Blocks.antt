@@ -2,8 +2,6 @@ use Rattle.std.specs.Prelude.{◌≡◌, ℕ, suc, ◌≤◌, Bool, true, false,
 use Rattle.std.specs.Str.{bytes_eq}
 use Rattle.q_base.specs.declared.code.Code.TheVariants.{OnlyInBlock, UnknownSavepoint, LimitExceeded}
 use Rattle.q_base.specs.declared.errors.SqlError.{SqlError}
-use Rattle.q_base.specs.declared.errors.Stop.{Stop}
-use Rattle.q_base.specs.declared.errors.Stop.TheVariants.{Sql, NoMemory}
 use Rattle.savepoints.specs.declared.transaction.Block.{Block}
 use Rattle.savepoints.specs.declared.transaction.Block.TheVariants as block
 use Rattle.savepoints.specs.declared.transaction.Savepoint.{Savepoint}
@@ -68,9 +66,3 @@ known_level name (Some found) = Ok found.0
 -- the level that RELEASE drops
 abbrev pub release_level : {M : Type 0} → List ℕ → Blocks M → Result ℕ SqlError
 release_level name state = if is_open state.status then known_level name (newest name state.stack) else Err (outside_block (codes "RELEASE SAVEPOINT"))
-
--- a call leads to the state that is expected, is refused as expected, or stops for want of memory
-abbrev pub LeadsTo : {S A : Type 0} → Result S SqlError → S → Result A Stop → Type 0
-LeadsTo expected new (Ok a) = expected ≡ Ok new
-LeadsTo expected new (Err (Sql error)) = expected ≡ Err error
-LeadsTo expected new (Err NoMemory) = Unit {0}

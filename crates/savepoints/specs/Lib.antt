@@ -1,1 +1,7 @@
 pub mod Blocks
+pub mod Choices
+pub mod Given
+pub mod Leads
+pub mod Settings
+pub mod Shown
+pub mod Values

@@ -1,8 +1,13 @@
-//! Transaction blocks with their savepoints.
+//! Transaction blocks with their savepoints, and the settings that follow them.
 #![tactic(auto)]
 
+mod given;
+mod held;
+mod settings;
+mod shown;
 #[cfg(test)]
 mod tests;
 mod transaction;
 
+pub use settings::{SetMark, Settings};
 pub use transaction::{Block, Transaction};

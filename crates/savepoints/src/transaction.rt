@@ -1,6 +1,7 @@
 ghost use Rattle.std.specs.Prelude.{◌≡◌, ◌-◌, ◌≤◌, [], None, is_some, not, length, take, IfOk, OnErr};
 ghost use Rattle.q_value.specs.Answers.{Answers};
 ghost use Rattle.savepoints.specs.Blocks as spec;
+ghost use Rattle.savepoints.specs.Leads.{LeadsTo};
 ghost use Rattle.savepoints.specs.declared.transaction.Block.TheVariants as block;
 
 use q_base::{Code, NoMemory, Stop, Str, refusal, refusal_naming};
@@ -128,7 +129,7 @@ impl<M: Copy> Transaction<M> {
     /// Puts a savepoint on the stack. Refused as 25P01 outside a block, and as 54000 exactly where 1,024
     /// are there.
     pub fn savepoint(&mut self, name: Str, mark: M) -> Result<(), Stop>
-        ensures saved { spec.LeadsTo (spec.saved name mark self.old) self.new result }
+        ensures saved { LeadsTo (spec.saved name mark self.old) self.new result }
         ensures kept { OnErr result (self.new ≡ self.old) }
     {
         if self.status == Block::Idle {
