@@ -1,8 +1,7 @@
 -- Reading functions of lists.
-use Rattle.std.specs.Prelude.{Bool, List}
+use Rattle.std.specs.Prelude.{Bool, List, Some}
 use Rattle.sql_tokens.specs.declared.token.Sign.TheVariants as sign
-use Rattle.sql_expr.specs.Reading.{Tokens, Parser, Outcome, eat_sign, separated}
-use Rattle.std.specs.Prelude.{Some}
+use Rattle.sql_expr.specs.Reading.{Tokens, Parser, eat_sign, separated}
 
 -- one element or more, with commas between them
 unfoldable pub listed : {A : Type 0} → Parser A → Parser (List A)

@@ -7,7 +7,6 @@
 //! item  = relation [alias]
 //! ```
 
-ghost use Rattle.std.specs.Prelude.{◌≡◌, [], ◌∷◌};
 ghost use Rattle.sql_expr.specs.Reading.{Reads};
 ghost use Rattle.sql_reader_query.specs.FromClause as spec;
 

@@ -7,7 +7,6 @@
 //! count  = NULL | parameter | ["-"] number
 //! ```
 
-ghost use Rattle.std.specs.Prelude.{◌≡◌};
 ghost use Rattle.sql_expr.specs.Reading.{Reads};
 ghost use Rattle.sql_reader_query.specs.Limits as spec;
 

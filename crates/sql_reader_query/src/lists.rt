@@ -1,4 +1,3 @@
-ghost use Rattle.std.specs.Prelude.{◌≡◌, [], ◌∷◌};
 ghost use Rattle.sql_expr.specs.Reading.{Parser, Reads};
 ghost use Rattle.sql_reader_query.specs.Lists.{listed};
 

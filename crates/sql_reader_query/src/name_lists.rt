@@ -8,7 +8,6 @@
 //! optional_names      = [parenthesized_names]
 //! ```
 
-ghost use Rattle.std.specs.Prelude.{◌≡◌, []};
 ghost use Rattle.sql_expr.specs.Names.{name as name_reading};
 ghost use Rattle.sql_expr.specs.Reading.{Reads};
 ghost use Rattle.sql_reader_query.specs.Names as spec;
@@ -33,8 +32,8 @@ fn qualified(alloc: Global, cursor: &mut Cursor<'_>) -> Result<(Option<Str>, Str
     Ok((Some(first), second))
 }
 
-/// The name of a table, view or index, with the name of a schema before it or without. 42601 where none comes
-/// next, and where none stands behind a dot.
+/// The name of a table, view or index, with the name of a schema before it or without (PostgreSQL's manual,
+/// "Schemas"). 42601 where none comes next, and where none stands behind a dot.
 #[tactic(auto, unfolding(crate::specs::Names::relation))]
 pub fn relation(alloc: Global, cursor: &mut Cursor<'_>) -> Result<QName, Stop>
     ensures { Reads (spec.relation cursor.old) result cursor.new }

@@ -6,7 +6,7 @@
 //! returning = [RETURNING output {"," output}]
 //! ```
 
-ghost use Rattle.std.specs.Prelude.{◌≡◌, []};
+ghost use Rattle.std.specs.Prelude.{◌≡◌};
 ghost use Rattle.sql_expr.specs.Reading.{Reads};
 ghost use Rattle.sql_reader_query.specs.Outputs as spec;
 

@@ -9,7 +9,7 @@
 //! key       = expression [ASC | DESC] [NULLS (FIRST | LAST)]
 //! ```
 
-ghost use Rattle.std.specs.Prelude.{◌≡◌, [], Some};
+ghost use Rattle.std.specs.Prelude.{◌≡◌, Some};
 ghost use Rattle.sql_expr.specs.Reading.{Reads};
 ghost use Rattle.sql_reader_query.specs.Query as spec;
 

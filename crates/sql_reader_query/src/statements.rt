@@ -5,7 +5,6 @@
 //! statement_command = SELECT selection | INSERT insertion | change (position | [WHERE expression]) returning
 //! ```
 
-ghost use Rattle.std.specs.Prelude.{◌≡◌};
 ghost use Rattle.sql_expr.specs.Reading.{Reads};
 ghost use Rattle.sql_reader_query.specs.Statements as spec;
 
@@ -31,8 +30,8 @@ fn select_or_insert(alloc: Global, cursor: &mut Cursor<'_>) -> Result<Option<Sta
 }
 
 /// A SELECT, INSERT, UPDATE or DELETE (PostgreSQL's manual has a page of each name), the longest that the
-/// tokens give without going back. None is positioned: before OF the word CURRENT is a column. 42601 where the
-/// tokens begin otherwise.
+/// tokens give without going back. None is positioned: behind WHERE the word CURRENT is a column, also before OF.
+/// 42601 where the tokens don't begin so.
 #[tactic(auto, unfolding(crate::specs::Statements::statement))]
 pub fn statement(alloc: Global, cursor: &mut Cursor<'_>) -> Result<Statement, Stop>
     ensures { Reads (spec.statement cursor.old) result cursor.new }
@@ -44,8 +43,8 @@ pub fn statement(alloc: Global, cursor: &mut Cursor<'_>) -> Result<Statement, St
     searched(alloc, cursor, change)
 }
 
-/// A command that is a statement, or a positioned UPDATE or DELETE: one in which WHERE CURRENT OF stands in the
-/// place of the condition. 42601 where the tokens begin otherwise.
+/// A command that is a statement, or a positioned UPDATE or DELETE, in which WHERE CURRENT OF and a cursor's name
+/// stand in the place of the condition. 42601 where the tokens don't begin so.
 #[tactic(auto, unfolding(crate::specs::Statements::statement_command))]
 pub fn statement_command(alloc: Global, cursor: &mut Cursor<'_>) -> Result<Command, Stop>
     ensures { Reads (spec.statement_command cursor.old) result cursor.new }
