@@ -11,7 +11,7 @@ use Rattle.sql_expr.specs.Names.{name}
 use Rattle.sql_reader_query.specs.Names.{relation}
 use Rattle.sql_reader_catalog.specs.Columns.{column_def}
 use Rattle.sql_reader_catalog.specs.Constants.{constant}
-use Rattle.sql_reader_catalog.specs.Keywords.{skip_column_of_add, skip_column_of_name, skip_column_of_alter}
+use Rattle.sql_reader_catalog.specs.Keywords.{skip_column_before_definition, skip_column_before_name, skip_column_before_change}
 
 -- `TO name`
 unfoldable pub renamed_to : Parser Text
@@ -50,7 +50,7 @@ drop_part column = do
 -- `[COLUMN] name (TYPE .. | SET .. | DROP ..)`
 unfoldable pub alter_column : Parser AlterAction
 alter_column = do
-  skip_column_of_alter
+  skip_column_before_change
   column ← name
   type_next ← eat_word (codes "type")
   if type_next then set_type column else (do
@@ -62,16 +62,16 @@ unfoldable pub rename : Parser AlterAction
 rename = do
   whole ← eat_word (codes "to")
   if whole then action.RenameTo <$> name else (do
-    skip_column_of_name
+    skip_column_before_name
     column ← name
     action.RenameColumn column <$> renamed_to)
 
 unfoldable pub table_action : Parser AlterAction
 table_action = do
   add_next ← eat_word (codes "add")
-  if add_next then skip_column_of_add >> (action.AddColumn <$> column_def false) else (do
+  if add_next then skip_column_before_definition >> (action.AddColumn <$> column_def false) else (do
     drop_next ← eat_word (codes "drop")
-    if drop_next then skip_column_of_name >> (action.DropColumn <$> name) else (do
+    if drop_next then skip_column_before_name >> (action.DropColumn <$> name) else (do
       rename_next ← eat_word (codes "rename")
       if rename_next then rename else (do
         set_next ← eat_word (codes "set")

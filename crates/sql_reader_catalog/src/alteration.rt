@@ -14,7 +14,9 @@ ghost use Rattle.sql_reader_catalog.specs.Alteration as spec;
 
 use crate::columns::column_def;
 use crate::constant;
-use crate::keywords::{skip_column_of_add, skip_column_of_alter, skip_column_of_name};
+use crate::keywords::{
+    skip_column_before_change, skip_column_before_definition, skip_column_before_name,
+};
 use q_base::{Stop, Str};
 use sql_expr::{Cursor, name};
 use sql_reader_query::relation;
@@ -60,10 +62,10 @@ fn action(alloc: Global, cursor: &mut Cursor<'_>) -> Result<AlterAction, Stop>
     ensures { Reads (spec.table_action cursor.old) result cursor.new }
 {
     if cursor.eat_word("add") {
-        skip_column_of_add(cursor);
+        skip_column_before_definition(cursor);
         Ok(AlterAction::AddColumn(column_def(alloc, cursor, false)?))
     } else if cursor.eat_word("drop") {
-        skip_column_of_name(cursor);
+        skip_column_before_name(cursor);
         Ok(AlterAction::DropColumn(name(alloc, cursor)?))
     } else if cursor.eat_word("rename") {
         rename(alloc, cursor)
@@ -84,7 +86,7 @@ fn rename(alloc: Global, cursor: &mut Cursor<'_>) -> Result<AlterAction, Stop>
     if cursor.eat_word("to") {
         return Ok(AlterAction::RenameTo(name(alloc, cursor)?));
     }
-    skip_column_of_name(cursor);
+    skip_column_before_name(cursor);
     let column = name(alloc, cursor)?;
     let new_name = renamed_to(alloc, cursor)?;
     Ok(AlterAction::RenameColumn(column, new_name))
@@ -95,7 +97,7 @@ fn rename(alloc: Global, cursor: &mut Cursor<'_>) -> Result<AlterAction, Stop>
 fn alter_column(alloc: Global, cursor: &mut Cursor<'_>) -> Result<AlterAction, Stop>
     ensures { Reads (spec.alter_column cursor.old) result cursor.new }
 {
-    skip_column_of_alter(cursor);
+    skip_column_before_change(cursor);
     let column = name(alloc, cursor)?;
     if cursor.eat_word("type") {
         set_type(alloc, cursor, column)

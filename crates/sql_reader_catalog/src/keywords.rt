@@ -1,41 +1,40 @@
-//! COLUMN, which is a keyword in ALTER TABLE and may also be a column's name. A rule for each place says
-//! which it is, by the tokens behind it: it is the keyword exactly where the command can be read so to its
-//! end.
+//! COLUMN, which is a keyword in ALTER TABLE and may also be a column's name. It is the keyword where the
+//! command can be read so to its end, and else the name; the tokens next behind it are enough to tell.
 
 ghost use Rattle.std.specs.Prelude.{◌≡◌, Some};
 ghost use Rattle.sql_reader_catalog.specs.Keywords as spec;
 
 use sql_expr::{Cursor, sees_name};
 
-/// Goes past COLUMN behind ADD, where it is the keyword: where two names follow.
-pub(crate) fn skip_column_of_add(cursor: &mut Cursor<'_>)
-    ensures { spec.skip_column_of_add cursor.old ≡ Some (tt, cursor.new) }
+/// Goes past COLUMN behind ADD, where it is the keyword: where two names follow, those of a column and its type.
+pub(crate) fn skip_column_before_definition(cursor: &mut Cursor<'_>)
+    ensures { spec.skip_column_before_definition cursor.old ≡ Some (tt, cursor.new) }
 {
-    if is_column_of_add(cursor) {
+    if is_column_before_definition(cursor) {
         cursor.skip();
     }
 }
 
-fn is_column_of_add(cursor: &Cursor<'_>) -> bool
-    ensures { result ≡ spec.is_column_of_add cursor.now }
+fn is_column_before_definition(cursor: &Cursor<'_>) -> bool
+    ensures { result ≡ spec.is_column_before_definition cursor.now }
 {
     let follow = cursor.past_next();
     cursor.sees_word("column") && sees_name(&follow) && sees_name(&follow.past_next())
 }
 
 /// Goes past COLUMN behind DROP and RENAME, where it is the keyword: where a name follows.
-pub(crate) fn skip_column_of_name(cursor: &mut Cursor<'_>)
-    ensures { spec.skip_column_of_name cursor.old ≡ Some (tt, cursor.new) }
+pub(crate) fn skip_column_before_name(cursor: &mut Cursor<'_>)
+    ensures { spec.skip_column_before_name cursor.old ≡ Some (tt, cursor.new) }
 {
     if cursor.sees_word("column") && sees_name(&cursor.past_next()) {
         cursor.skip();
     }
 }
 
-/// Goes past COLUMN behind ALTER, where it is the keyword: where a name follows and a change of a column
-/// behind it.
-pub(crate) fn skip_column_of_alter(cursor: &mut Cursor<'_>)
-    ensures { spec.skip_column_of_alter cursor.old ≡ Some (tt, cursor.new) }
+/// Goes past COLUMN behind the inner ALTER, where it is the keyword: where a name follows and behind that a
+/// change of a column.
+pub(crate) fn skip_column_before_change(cursor: &mut Cursor<'_>)
+    ensures { spec.skip_column_before_change cursor.old ≡ Some (tt, cursor.new) }
 {
     let follow = cursor.past_next();
     if cursor.sees_word("column") && sees_name(&follow) && sees_change(&follow.past_next()) {
