@@ -20,8 +20,9 @@ only x y found = let at : found.0 ≡ 0 = omega (arith, found.1) in sym found.2 
 -- one more on both sides
 same_more : (id : ObjId) (old new listed : List ObjId) → HasOneMore id old new → SameMembers old listed → SameMembers new (listed ++ id ∷ [])
 same_more id old new listed more same other = (
-    λ found. ⊎_elim (λ e. subst (Contains (listed ++ id ∷ [])) (sym e) (Contains-push listed id)) (λ there. Contains-append_left listed (id ∷ []) other ((same other).0 there)) ((more other).0 found),
-    λ found. (more other).1 (⊎_elim (λ there. inr ((same other).1 there)) (λ last. inl (only id other last)) (Contains-append_cases listed (id ∷ []) other found)))
+  λ found. ⊎_elim (λ e. subst (Contains (listed ++ id ∷ [])) (sym e) (Contains-push listed id)) (λ there. Contains-append_left listed (id ∷ []) other ((same other).0 there)) ((more other).0 found),
+  λ found. (more other).1 (⊎_elim (λ there. inr ((same other).1 there)) (λ last. inl (only id other last)) (Contains-append_cases listed (id ∷ []) other found)),
+)
 
 -- one item more was passed
 pub passed_more : (items : List Item) (at : ℕ) (item : Item) (relation : Relation) (old new : List ObjId) → at < length items →

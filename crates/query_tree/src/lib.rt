@@ -6,11 +6,14 @@
 //! stand behind those of the items.
 #![tactic(auto)]
 
+mod copies;
 mod query;
+mod query_copy;
 mod result;
 mod statement;
 mod target;
 
+pub use copies::Copies;
 pub use query::{
     Aggregate, AggregateList, Item, ItemList, Query, Relation, RelationColumnList, SortKey,
     SortKeyList, direct,
