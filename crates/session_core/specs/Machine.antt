@@ -5,7 +5,7 @@ use Rattle.sql_tokens.specs.declared.token.Token.{Token}
 use Rattle.sql_tokens.specs.Tokens.{tokens_of}
 use Rattle.sql_tree.specs.declared.command.Command.{Command}
 use Rattle.sql_tree.specs.declared.command.Command.TheVariants.{Prepare, Execute}
-use Rattle.sql_reader.specs.Commands.{command_of}
+use Rattle.sql_reader.specs.Commands.{command_read}
 use Rattle.session_core.specs.declared.session.Done.{Done}
 use Rattle.session_core.specs.State.{State, empty_state, Refuses}
 use Rattle.session_core.specs.Prepared.{Prepares, Executes, Unbuilt}
@@ -23,7 +23,7 @@ Follows state (Err error) = Refuses state error
 
 -- the same of a text whose tokens are found, or that is refused
 abbrev pub Reads : State → Result (List Token) SqlError → Done → List ℕ → State → Type 0
-Reads state (Ok tokens) = Follows state (command_of tokens)
+Reads state (Ok tokens) = Follows state (command_read tokens)
 Reads state (Err error) = Refuses state error
 
 -- one step: from state the text of a command gives that end and output, and leads to state2

@@ -17,6 +17,3 @@ pub use alteration::alter;
 pub use constants::constant;
 pub use creation::create;
 pub use removal::{analyze, drop_object, truncate};
-
-#[cfg(test)]
-mod tests;

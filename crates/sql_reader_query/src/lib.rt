@@ -13,6 +13,3 @@ mod statements;
 pub use name_lists::{names, optional_names, parenthesized_names, relation};
 pub use query::select;
 pub use statements::{statement, statement_command};
-
-#[cfg(test)]
-mod tests;

@@ -19,6 +19,3 @@ pub use cursors::{close, declare, fetch, move_cursor};
 pub use lines::backslash_line;
 pub use prepared::{deallocate, discard, execute, explain, prepare};
 pub use settings::{reset, set, show};
-
-#[cfg(test)]
-mod tests;

@@ -1,8 +1,8 @@
-use crate::{
-    names, optional_names, parenthesized_names, relation, select, statement, statement_command,
-};
 use q_base::{Code, Stop, Str};
 use sql_expr::Cursor;
+use sql_reader_query::{
+    names, optional_names, parenthesized_names, relation, select, statement, statement_command,
+};
 use sql_tokens::tokens;
 use sql_tree::{
     ColumnRef, Command, Expr, FromChain, FromItem, InsertTree, Join, Literal, NameList, NewRow,

@@ -1,6 +1,6 @@
-use crate::{alter, analyze, create, drop_object, truncate};
 use q_base::{Code, Stop, Str, refusal};
 use sql_expr::Cursor;
+use sql_reader_catalog::{alter, analyze, create, drop_object, truncate};
 use sql_tokens::{Token, tokens};
 use sql_tree::{
     AlterAction, ColumnDef, Command, KeyKind, Literal, Nullability, ObjectKind, OnCommit, QName,

@@ -1,6 +1,6 @@
-use crate::*;
 use q_base::{Code, SetValue, SettingList, Stop, refusal};
 use sql_expr::Cursor;
+use sql_reader_session::*;
 use sql_tokens::{Token, tokens};
 use sql_tree::{
     Command, DeclareTree, ExecuteTree, Expr, Literal, Motion, PrepareTree, SetTree, Statement,
