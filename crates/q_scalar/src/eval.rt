@@ -1,4 +1,8 @@
-ghost use Rattle.std.specs.Prelude.{◌≡◌, map, true, false, Some};
+ghost use Rattle.std.specs.Prelude.{◌≡◌, map, true, false, List, Option, Some, Ok, IfOk};
+ghost use Rattle.q_value.specs.declared.value.SqlType.{SqlType};
+ghost use Rattle.q_value.specs.Values.{IsOf, Fits};
+ghost use Rattle.query_tree.specs.Targets.{is_fallible};
+ghost use Rattle.query_tree.specs.Typing.{IsTyped, FitsRow};
 ghost use Rattle.query_tree.specs.Evaluation as spec;
 ghost use Rattle.q_scalar.specs.Held.{outcome_value};
 ghost use Rattle.q_scalar.specs.Stops.{Gives};
@@ -9,7 +13,7 @@ use crate::held::{Held, held_at, held_param, truth_held};
 use crate::logic::{both, either, negation};
 use q_base::{Code, NoMemory};
 use q_value::Value;
-use query_tree::{Cond, Target};
+use query_tree::{Cond, Target, laws};
 use std::alloc::Global;
 
 /// Why a target has no value: a fault of its own, or want of memory.
@@ -30,13 +34,22 @@ impl From<NoMemory> for EvalStop {
     }
 }
 
-/// The truth value of a condition over a row and the values of the parameters, `None` where it is unknown.
-/// Of a condition that holds arithmetic and faults, which `eval_fallible` tells, it answers `None` too.
+/// The truth value of a condition over a row and the values of the parameters, `None` where it is unknown
+/// (PostgreSQL's manual, "Logical Operators"). A condition without arithmetic can't fault; of one that holds some
+/// and faults the answer is `None` too, and `eval_fallible` tells the fault.
 pub fn eval_cond(cond: &Cond, row: &[Value], params: &[Value]) -> Option<bool>
-    ensures { result ≡ spec.truth_of cond.now row.now params.now }
+    ensures value { result ≡ spec.truth_of cond.now row.now params.now }
+    ensures sure { is_fallible cond.now ≡ false → spec.truth_or_fault (spec.value_of cond.now row.now params.now) ≡ Ok result }
 {
-    match outcome(cond, row, params) {
-        Ok(held) => held.truth(),
+    laws::faults();
+    truth_or_unknown(eval_fallible(cond, row, params))
+}
+
+fn truth_or_unknown(truth: Result<Option<bool>, Code>) -> Option<bool>
+    ensures { result ≡ spec.known truth }
+{
+    match truth {
+        Ok(truth) => truth,
         Err(_) => None,
     }
 }
@@ -49,16 +62,27 @@ pub fn eval_fallible(cond: &Cond, row: &[Value], params: &[Value]) -> Result<Opt
     Ok(held.truth())
 }
 
-/// The value of a target over a row and the values of the parameters, or its first fault.
+/// The value of a target over a row and the values of the parameters, or its first fault: 22003 where a number
+/// is out of the range of its type, 22012 for a division by zero. Operands go from left to right, all of them.
+/// A place past the end of the row, and a parameter past the last, count as null.
 pub fn eval_target(
     alloc: Global,
     target: &Target,
     row: &[Value],
     params: &[Value],
 ) -> Result<Value, EvalStop>
-    ensures { Gives (spec.value_of target.now row.now params.now) result }
+    ensures value { Gives (spec.value_of target.now row.now params.now) result }
+    ensures typed { (columns : List (Option SqlType)) (types : List SqlType) (kind : SqlType) → IsTyped columns types kind target.now → FitsRow columns row.now → Fits types params.now → IfOk result (IsOf kind) }
 {
-    match outcome(target, row, params) {
+    laws::types();
+    owned(alloc, outcome(target, row, params))
+}
+
+/// The value as the caller's own.
+fn owned(alloc: Global, outcome: Result<Held<'_>, Code>) -> Result<Value, EvalStop>
+    ensures { Gives (outcome_value outcome.entry) result }
+{
+    match outcome {
         Ok(Held::Lent(value)) => Ok(value.copy(alloc)?),
         Ok(Held::Made(value)) => Ok(value),
         Err(code) => Err(EvalStop::Fault(code)),

@@ -153,11 +153,11 @@ value_of target row params = fold-Target (Result Value Code) (node_value row par
 abbrev pub truth_or_fault : Result Value Code → Result (Option Bool) Code
 truth_or_fault outcome = then_with outcome (λ found. Ok (truth_in found))
 
--- the truth value of a value, where a fault counts as unknown
-abbrev pub truth_or_unknown : Result Value Code → Option Bool
-truth_or_unknown (Ok found) = truth_in found
-truth_or_unknown (Err code) = None
+-- a truth value, where a fault counts as unknown
+abbrev pub known : Result (Option Bool) Code → Option Bool
+known (Ok truth) = truth
+known (Err code) = None
 
 -- a condition is true, false or unknown
 abbrev pub truth_of : Target → List Value → List Value → Option Bool
-truth_of cond row params = truth_or_unknown (value_of cond row params)
+truth_of cond row params = known (truth_or_fault (value_of cond row params))

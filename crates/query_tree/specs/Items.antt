@@ -1,4 +1,4 @@
--- The items of a query, and the row of their product.
+-- What the items of a query name.
 use Rattle.std.specs.Prelude.{ℕ, Option, List, map, length, take, option_map}
 use Rattle.std.specs.List.{flat_map}
 use Rattle.q_base.specs.declared.ids.ObjId.{ObjId}
@@ -20,15 +20,3 @@ relation_of item = head_relation (out-Item item)
 -- the ids of the items, in order
 abbrev pub ids_of : Query → List ObjId
 ids_of query = map (λ item. (relation_of item).id) query.items
-
--- the types of a relation's rows by their places
-abbrev pub relation_kinds : Relation → List (Option SqlType)
-relation_kinds relation = map (option_map (λ column. column.kind)) relation.columns
-
--- the types of the rows of a product: those of the items, one after another
-abbrev pub product_kinds : List Item → List (Option SqlType)
-product_kinds items = flat_map (λ item. relation_kinds (relation_of item)) items
-
--- the place at which the columns of an item begin in a row of the product
-abbrev pub start_of : List Item → ℕ → ℕ
-start_of items item = length (product_kinds (take item items))

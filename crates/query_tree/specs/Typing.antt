@@ -48,7 +48,7 @@ expected kind (Some found) = if is_kind found kind then Some kind else None
 
 -- the type of a constant, where the value is of it: null is of each
 abbrev pub constant_kind : SqlType → Value → Option SqlType
-constant_kind kind constant = option_map_or (λ found. expected kind (Some found)) (Some kind) (kind_of constant)
+constant_kind kind constant = option_map_or (λ found. expected kind (Some found)) (kind_of constant) (Some kind)
 
 -- the types of a row's values by their places; any value may stand where there is no type
 abbrev pub column_kind : List (Option SqlType) → ℕ → Option SqlType

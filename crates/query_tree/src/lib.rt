@@ -7,6 +7,7 @@
 #![tactic(auto)]
 
 mod copies;
+pub mod laws;
 mod query;
 mod query_copy;
 mod result;
