@@ -1,9 +1,9 @@
 -- The copies of the values that the log keeps, and going back among them.
-use Rattle.std.proofs.Common.{◌≡◌, ℕ, ◌+◌, ◌-◌, ◌≤◌, suc, zero, List, [], ◌∷◌, length, drop, reverse, refl, sym, ap, ◌∙◌, arith}
+use Rattle.std.proofs.Common.{◌≡◌, ℕ, ◌+◌, ◌-◌, ◌≤◌, suc, zero, List, [], ◌∷◌, length, drop, refl, sym, ap, ◌∙◌, arith}
 use Rattle.std.proofs.lemmas.List.{drop-drop, length-drop}
 use Rattle.savepoints.specs.declared.held.Replaced.{Replaced}
 use Rattle.savepoints.specs.Values.{Both, undone}
-use Rattle.savepoints.specs.Settings.{SettingsState, copies, earlier, back, at_mark, values_at, Stands, KeepsMark}
+use Rattle.savepoints.specs.Settings.{SettingsState, copies, earlier, back, at_mark, Stands, KeepsMark}
 
 pub length_of_copies : (now : Both) (log : List Replaced) → length (copies now log) ≡ length log
 length_of_copies now [] = refl

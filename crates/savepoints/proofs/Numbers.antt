@@ -6,7 +6,7 @@ use Rattle.q_value.specs.declared.value.SqlType.TheVariants as kind
 use Rattle.q_value.specs.declared.value.Value.{Value}
 use Rattle.q_value.specs.declared.value.Value.TheVariants as value
 use Rattle.q_value.specs.Parse.{integer_parsed, or_error, out_of_range}
-use Rattle.q_value.specs.Values.{number_of, integer_in, is_within}
+use Rattle.q_value.specs.Values.{number_of, is_within}
 use Rattle.savepoints.specs.Given.{number_truth}
 
 -- the number that was parsed is the value's

@@ -1,5 +1,5 @@
 -- Which setting a name means, and which value SET gives it.
-use Rattle.std.specs.Prelude.{ℕ, ℤ, pos, Bool, true, false, if◌then◌else◌, Option, None, Some, Result, Ok, Err, List, [], ◌∷◌, map, option_map, codes}
+use Rattle.std.specs.Prelude.{ℕ, ℤ, pos, Bool, true, false, if◌then◌else◌, Option, None, Some, Result, Ok, List, [], ◌∷◌, map, option_map, codes}
 use Rattle.std.specs.Ordering.{int_eq}
 use Rattle.std.specs.Str.{bytes_eq, str_eq_ignore_ascii_case}
 use Rattle.q_base.specs.declared.code.Code.TheVariants.{InvalidSettingValue}
@@ -16,7 +16,6 @@ use Rattle.savepoints.specs.declared.given.Given.{Given}
 use Rattle.savepoints.specs.declared.given.Given.TheVariants as given
 use Rattle.savepoints.specs.declared.given.Name.{Name}
 use Rattle.savepoints.specs.declared.given.Name.TheVariants as names
-use Rattle.savepoints.specs.declared.given.Switch.{Switch}
 use Rattle.savepoints.specs.declared.given.Switch.TheVariants as switch
 
 -- the setting of a name

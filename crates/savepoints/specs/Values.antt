@@ -1,6 +1,5 @@
 -- The session's values of the settings and the current ones, and how they change.
 use Rattle.std.specs.Prelude.{ℕ, Bool, true, false, Option, List, unwrap_or}
-use Rattle.savepoints.specs.declared.given.Choice.{Choice}
 use Rattle.savepoints.specs.declared.given.Given.{Given}
 use Rattle.savepoints.specs.declared.given.Given.TheVariants as given
 use Rattle.savepoints.specs.declared.held.Choices.{Choices}

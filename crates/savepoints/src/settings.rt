@@ -1,4 +1,4 @@
-ghost use Rattle.std.specs.Prelude.{◌≡◌, ℕ, ◌≤◌, [], IfOk, IfErr, OnOk, OnErr, length, MatchOption};
+ghost use Rattle.std.specs.Prelude.{◌≡◌, ℕ, ◌≤◌, IfOk, IfErr, OnOk, OnErr, length};
 ghost use Rattle.q_base.specs.Stops.{StopsBy};
 ghost use Rattle.savepoints.specs.Leads.{LeadsTo};
 ghost use Rattle.savepoints.specs.Shown.{shown_after};

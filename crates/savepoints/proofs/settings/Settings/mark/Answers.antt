@@ -1,4 +1,4 @@
-use Rattle.std.proofs.Common.{◌≡◌, ◌-◌, ◌≤◌, length, sym, ap, ◌∙◌, subst, arith}
+use Rattle.std.proofs.Common.{length, ap, arith}
 use Rattle.std.proofs.lemmas.List.{length-reverse}
 use Rattle.savepoints.specs.Settings.{SettingsState, earlier}
 use Rattle.savepoints.proofs.Marks.{length_of_copies}
