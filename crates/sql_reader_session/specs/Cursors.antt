@@ -6,7 +6,6 @@ use Rattle.sql_tokens.specs.declared.token.Token.TheVariants as token
 use Rattle.sql_tree.specs.declared.command.Command.{Command}
 use Rattle.sql_tree.specs.declared.command.Command.TheVariants as command
 use Rattle.sql_tree.specs.declared.cursors.CursorOptions.{CursorOptions}
-use Rattle.sql_tree.specs.declared.cursors.DeclareTree.{DeclareTree}
 use Rattle.sql_tree.specs.declared.cursors.FetchTree.{FetchTree}
 use Rattle.sql_tree.specs.declared.statement.Statement.TheVariants as statement
 use Rattle.sql_expr.specs.Reading.{Text, Parser, ◌>>=◌, ◌>>◌, ◌<$>◌, pure, taken, goes_on, eat_word, expect_word}

@@ -1,5 +1,5 @@
 -- Words that are a keyword in one place and a name in another, and words of which either may stand.
-use Rattle.std.specs.Prelude.{Bool, true, false, ◌&&◌, ◌||◌, drop, Some, codes, if◌then◌else◌}
+use Rattle.std.specs.Prelude.{Bool, true, ◌&&◌, drop, Some, if◌then◌else◌}
 use Rattle.sql_expr.specs.Reading.{Text, Tokens, Parser, ◌>>=◌, pure, sees_word, behind, eat_word}
 use Rattle.sql_expr.specs.Names.{sees_name}
 

@@ -1,5 +1,5 @@
 -- Numbers of rows.
-use Rattle.std.specs.Prelude.{ℕ, ◌+◌, ◌-◌, ◌*◌, ℤ, pos, neg_ℤ, Bool, true, false, List, [], ◌∷◌, nat_le, Option, None, Some, option_and_then, if◌then◌else◌}
+use Rattle.std.specs.Prelude.{ℕ, ◌+◌, ◌-◌, ◌*◌, ℤ, pos, neg_ℤ, Bool, true, false, [], ◌∷◌, nat_le, Option, None, Some, option_and_then, if◌then◌else◌}
 use Rattle.sql_tokens.specs.declared.token.Token.TheVariants as token
 use Rattle.sql_tokens.specs.declared.token.Sign.TheVariants as sign
 use Rattle.sql_expr.specs.Reading.{Text, Tokens, Parser, ◌>>=◌, ◌<$>◌, pure, taken, required, eat_sign}

@@ -1,6 +1,6 @@
 use Rattle.std.proofs.Common.{rules, arith}
 use Rattle.std.proofs.lemmas.Grind.{common_steps}
-use Rattle.sql_reader_session.specs.Cursors.{cursor_options, options_from}
+use Rattle.sql_reader_session.specs.Cursors.{options_from}
 use Rattle.sql_expr.proofs.Turns.{one_more, no_more}
 use Rattle.sql_reader_session.proofs.cursors.cursor_options.Goals as goal
 
