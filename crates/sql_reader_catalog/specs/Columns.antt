@@ -1,9 +1,8 @@
 -- Definitions of columns: `name type {NOT NULL | NULL | DEFAULT constant | PRIMARY KEY | UNIQUE}`.
-use Rattle.std.specs.Prelude.{ℕ, zero, suc, Bool, false, true, is_some, not, List, [], ◌∷◌, ◌++◌, length, Option, Some, None, codes, if◌then◌else◌}
+use Rattle.std.specs.Prelude.{ℕ, zero, suc, Bool, false, true, is_some, [], ◌∷◌, ◌++◌, length, Option, Some, None, codes, if◌then◌else◌}
 use Rattle.std.specs.List.{list_any}
 use denote.Enum.Bare.{sameb}
 use Rattle.sql_tree.specs.declared.catalog.ColumnDef.{ColumnDef}
-use Rattle.sql_tree.specs.declared.catalog.KeyKind.{KeyKind}
 use Rattle.sql_tree.specs.declared.catalog.KeyKind.TheVariants as kind
 use Rattle.sql_tree.specs.contracts.catalog.KeyKind.{the_type}
 use Rattle.sql_tree.specs.declared.catalog.Nullability.{Nullability}

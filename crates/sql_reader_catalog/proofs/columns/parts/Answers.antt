@@ -1,4 +1,4 @@
-use Rattle.std.proofs.Common.{◌≡◌, rules, arith}
+use Rattle.std.proofs.Common.{rules, arith}
 use Rattle.std.proofs.lemmas.Grind.{common_steps}
 use Rattle.sql_expr.proofs.Turns.{one_more, no_more}
 use Rattle.sql_reader_catalog.specs.Columns.{parts_from}
