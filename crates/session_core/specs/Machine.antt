@@ -4,14 +4,15 @@ use Rattle.q_base.specs.declared.settings.Mode.{Mode}
 use Rattle.sql_tokens.specs.declared.token.Token.{Token}
 use Rattle.sql_tokens.specs.Tokens.{tokens_of}
 use Rattle.sql_tree.specs.declared.command.Command.{Command}
-use Rattle.sql_tree.specs.declared.command.Command.TheVariants.{Prepare, Execute}
+use Rattle.sql_tree.specs.declared.command.Command.TheVariants.{Statement, Prepare, Execute}
 use Rattle.sql_reader.specs.Commands.{command_read}
 use Rattle.session_core.specs.declared.session.Done.{Done}
 use Rattle.session_core.specs.State.{State, empty_state, Refuses}
-use Rattle.session_core.specs.Prepared.{Prepares, Executes, Unbuilt}
+use Rattle.session_core.specs.Prepared.{Selects, Prepares, Executes, Unbuilt}
 
 -- the command leads from state to state2 with that end and output; one case a command
 abbrev pub Performs : State → Command → Done → List ℕ → State → Type 0
+Performs state (Statement tree) = Selects state tree
 Performs state (Prepare tree) = Prepares state tree
 Performs state (Execute tree) = Executes state tree
 Performs state _ = Unbuilt state

@@ -4,8 +4,9 @@ use Rattle.q_base.specs.declared.code.Code.TheVariants.{BigintOutOfRange, Duplic
 use Rattle.session_core.specs.declared.session.Done.{Done}
 use Rattle.sql_tree.specs.declared.prepared.ExecuteTree.{ExecuteTree}
 use Rattle.sql_tree.specs.declared.prepared.PrepareTree.{PrepareTree}
+use Rattle.sql_tree.specs.declared.statement.Statement as written
 use Rattle.session_core.specs.Numbers.{number_of, number_lines}
-use Rattle.session_core.specs.Selected.{is_empty, selected_digits}
+use Rattle.session_core.specs.Selected.{is_empty, prepared_digits, selected_digits}
 use Rattle.session_core.specs.State.{State, Statement, Refuses, Succeeds}
 
 -- the number that the statement of a name selects
@@ -24,10 +25,18 @@ Unbuilt state = Refuses state (record { code = NotBuilt; args = [] })
 -- statement is kept. Another statement can't be run yet.
 abbrev pub Prepares : State → PrepareTree → Done → List ℕ → State → Type 0
 Prepares state tree end output state2 =
-    MatchOption (selected_digits tree) (Unbuilt state end output state2) (λ digits.
+    MatchOption (prepared_digits tree) (Unbuilt state end output state2) (λ digits.
     MatchOption (number_of digits) (Refuses state (record { code = BigintOutOfRange; args = [] }) end output state2) (λ number.
     MatchOption (kept state.statements tree.name) (Succeeds (codes "PREPARE\n") (with_statement state tree.name number) end output state2) (λ _.
     Refuses state (record { code = DuplicateStatement; args = tree.name ∷ [] }) end output state2)))
+
+-- a statement that selects a number: one past bigint is refused; else its row is printed. Another statement can't be
+-- run yet.
+abbrev pub Selects : State → written.Statement → Done → List ℕ → State → Type 0
+Selects state tree end output state2 =
+    MatchOption (selected_digits tree) (Unbuilt state end output state2) (λ digits.
+    MatchOption (number_of digits) (Refuses state (record { code = BigintOutOfRange; args = [] }) end output state2) (λ number.
+    Succeeds (number_lines number) state end output state2))
 
 -- the name of the statement that is executed without arguments
 abbrev pub executed_name : ExecuteTree → Option (List ℕ)

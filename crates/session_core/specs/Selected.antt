@@ -40,10 +40,11 @@ has_more select =
 unfoldable pub digits_of_select : Select → Option (List ℕ)
 digits_of_select select = if has_more select then None else digits_of_outputs select.core.outputs
 
-abbrev pub digits_of_statement : Statement → Option (List ℕ)
-digits_of_statement (statement.Select select) = digits_of_select select
-digits_of_statement _ = None
+-- the digits of the number that a statement selects
+abbrev pub selected_digits : Statement → Option (List ℕ)
+selected_digits (statement.Select select) = digits_of_select select
+selected_digits _ = None
 
--- the digits of the number that a statement without types selects
-unfoldable pub selected_digits : PrepareTree → Option (List ℕ)
-selected_digits tree = if is_empty tree.types then digits_of_statement tree.statement else None
+-- the digits of the number that a prepared statement without types selects
+unfoldable pub prepared_digits : PrepareTree → Option (List ℕ)
+prepared_digits tree = if is_empty tree.types then selected_digits tree.statement else None

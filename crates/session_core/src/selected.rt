@@ -7,15 +7,23 @@ ghost use Rattle.session_core.specs.Selected as spec;
 use q_base::Str;
 use sql_tree::{Expr, Limits, Literal, OutputItem, PrepareTree, Select, Statement};
 
-/// The digits of the number that a statement selects; `None` exactly where it is any other statement.
-#[tactic(auto, unfolding(crate::specs::Selected::selected_digits))]
-pub fn selected_digits(tree: &PrepareTree) -> Option<&Str>
-    ensures { option_copied result ≡ spec.selected_digits tree.now }
+/// The digits of the number that a prepared statement selects; `None` exactly where types are declared or it
+/// is any other statement.
+#[tactic(auto, unfolding(crate::specs::Selected::prepared_digits))]
+pub fn prepared_digits(tree: &PrepareTree) -> Option<&Str>
+    ensures { option_copied result ≡ spec.prepared_digits tree.now }
 {
     if !tree.types.as_slice().is_empty() {
         return None;
     }
-    match &tree.statement {
+    selected_digits(&tree.statement)
+}
+
+/// The digits of the number that a statement selects; `None` exactly where it is any other statement.
+pub fn selected_digits(statement: &Statement) -> Option<&Str>
+    ensures { option_copied result ≡ spec.selected_digits statement.now }
+{
+    match statement {
         Statement::Select(select) => digits_of_select(select),
         _ => None,
     }

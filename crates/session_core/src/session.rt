@@ -96,6 +96,7 @@ impl Session {
         ensures refused { IfErr result (StopsBy (λ error. (out.new.items ≡ out.old.items) × Performs self.old.state command Done.Refused (error_line error) self.new.state)) }
     {
         match command {
+            Command::Statement(tree) => self.select(tree, out),
             Command::Prepare(tree) => self.prepare(tree, out),
             Command::Execute(tree) => self.execute(tree, out),
             _ => Err(refusal(self.alloc, Code::NotBuilt)),
