@@ -58,6 +58,6 @@ module _ (row params : List Value) where
   pub sure : (target : Target) → IsSure target
   sure = ind-Target IsSure (λ node proved is.
       subst (λ (n : Target-F Target). IsSure (roll-Target n)) is (λ none.
-          let inner = map-Target Sure Target tree proved in
-          let whole = node_has proved (sym (fold-roll-Target Bool has_fallible_node inner) ∙ none) in
-          (whole.0, fold-roll-Target (Result Value Code) (node_value row params) inner ∙ whole.1)))
+      let inner = map-Target Sure Target tree proved in
+      let whole = node_has proved (sym (fold-roll-Target Bool has_fallible_node inner) ∙ none) in
+      (whole.0, fold-roll-Target (Result Value Code) (node_value row params) inner ∙ whole.1)))

@@ -177,7 +177,6 @@ module _ (columns : List (Option SqlType)) (types : List SqlType) where
   node_told (Target-F.And operands) type e = truths_found _ type e
   node_told (Target-F.Or operands) type e = truths_found _ type e
 
-
   typed_node : (target : Target) (type : SqlType) → IsTyped columns types type target → node_kind columns types (map-Target Target (Option SqlType) kinds (out-Target target)) ≡ Some type
   typed_node target type typed = sym (fold_out-Target (Option SqlType) (node_kind columns types) target) ∙ typed
 

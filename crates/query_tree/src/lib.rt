@@ -27,3 +27,6 @@ pub use statement::{
 pub use target::{
     AggregatePlace, ArithmeticOp, ColumnPlace, CompareOp, Cond, CondList, Target, TargetList,
 };
+
+#[cfg(test)]
+mod tests;
