@@ -372,12 +372,23 @@ fn is_refused(alloc: Global, text: &str) -> Result<bool, AllocError> {
     }
 }
 
+/// The first text that isn't read as the tree beside it.
+fn first_misread<'a>(
+    alloc: Global,
+    cases: &'a [(&'a str, &'a str)],
+) -> Result<Option<&'a str>, Stop> {
+    for case in cases {
+        let command = read(alloc, case.0)?;
+        if shown(alloc, &command)?.trim_end() != case.1 {
+            return Ok(Some(case.0));
+        }
+    }
+    Ok(None)
+}
+
 #[test]
 fn commands_are_read(rt: HostRuntime) -> Result<(), Fail> {
-    for (text, tree) in READ {
-        let command = read(rt.alloc(), text)?;
-        assert_eq!(rt; shown(rt.alloc(), &command)?.trim_end(), tree, "at {text}");
-    }
+    assert_eq!(rt; first_misread(rt.alloc(), &READ)?, None);
     Ok(())
 }
 
