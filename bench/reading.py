@@ -1,10 +1,13 @@
 #!/usr/bin/env python3
-"""Microseconds a kilobyte of reading one long command, at a quarter, half and all of the greatest length.
+"""Microseconds of processor time a kilobyte of one long command, at a quarter, half and all of the greatest length.
 
 Usage: bench/reading.py [program]. Prints figures and fails nothing. Where reading costs linear time, the
 figures of a line are alike.
 """
-from common import program, run_bytes
+import resource
+import subprocess
+
+from common import program
 
 GREATEST = 2**20
 REPEATS = 5
@@ -33,8 +36,15 @@ def targets(size):
     return head + b", ".join([target] * ((size - len(head)) // (len(target) + 2)))
 
 
+def processor_seconds(path, script):
+    before = resource.getrusage(resource.RUSAGE_CHILDREN)
+    subprocess.run([path], input=script, stdout=subprocess.DEVNULL, check=False)
+    after = resource.getrusage(resource.RUSAGE_CHILDREN)
+    return after.ru_utime - before.ru_utime + after.ru_stime - before.ru_stime
+
+
 def best(path, script):
-    return min(run_bytes(path, script).seconds for _ in range(REPEATS))
+    return min(processor_seconds(path, script) for _ in range(REPEATS))
 
 
 def main():
