@@ -1,6 +1,6 @@
+pub mod Answers
+pub mod Arguments
 pub mod Machine
-pub mod Numbers
 pub mod Prepared
 pub mod Seen
-pub mod Selected
 pub mod State

@@ -3,12 +3,13 @@ use Rattle.q_base.specs.declared.errors.SqlError.{SqlError}
 use Rattle.q_base.specs.declared.settings.Mode.{Mode}
 use Rattle.session_core.specs.declared.session.Done.{Done}
 use Rattle.session_core.specs.declared.session.Done.TheVariants as done
+use Rattle.analyzer.specs.Statements.{Found}
 use Rattle.result_text.specs.Messages.{error_line}
 
--- a prepared statement: its name, and the number that it selects
+-- a prepared statement: its name, and what its analysis found
 pub record Statement : Type 0 where
   pub name : List ℕ
-  pub number : ℕ
+  pub found : Found
 
 -- what a session is: its default mode of plans, and its statements in order of making
 pub record State : Type 0 where

@@ -1,8 +1,8 @@
 //! One session: the statements that it keeps, and what each command does and answers.
 #![tactic(auto)]
 
-mod numbers;
-mod selected;
+mod answers;
+mod arguments;
 mod session;
 mod statements;
 

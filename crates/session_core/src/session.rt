@@ -35,8 +35,13 @@ pub struct Session {
 
 impl Model for Session {
     ghost use Rattle.session_core.specs.Seen.{Seen};
+    ghost use Rattle.std.specs.Coded.{codes};
+    ghost use Rattle.query_tree.specs.contracts.query.Item as item;
+    ghost use Rattle.query_tree.specs.contracts.target.Target as target;
 
     ghost Value = { Seen };
+
+    ghost coded = { Prim.hlevel (codes, item.the_row.coded, target.the_row.coded) };
 
     ghost view = { λ s. record { state = record { mode = s.mode; statements = s.statements }; ran = s.ran } };
 }
@@ -61,7 +66,7 @@ impl Session {
         &mut self,
         command: &str,
         out: &mut Vec<u8>,
-        _work: &mut Work<L>,
+        work: &mut Work<L>,
     ) -> Result<Done, NoMemory>
         requires size { length command.now ≤ 2 ^ 20 }
         requires few { self.old.ran < 2 ^ 30 }
@@ -69,7 +74,7 @@ impl Session {
         ensures ran { OnOk result (self.new.ran ≡ self.old.ran + 1) }
     {
         self.ran += 1;
-        match self.perform(command, out) {
+        match self.perform(command, out, work) {
             Ok(()) => Ok(Done::Ok),
             Err(Stop::Sql(error)) => {
                 error_text(&error, out)?;
@@ -80,24 +85,34 @@ impl Session {
     }
 
     // Reads the command and does what it says; where it is refused nothing was appended or changed.
-    fn perform(&mut self, text: &str, out: &mut Vec<u8>) -> Result<(), Stop>
+    fn perform<L: Ledger>(
+        &mut self,
+        text: &str,
+        out: &mut Vec<u8>,
+        work: &mut Work<L>,
+    ) -> Result<(), Stop>
         ensures ran { self.new.ran ≡ self.old.ran }
         ensures done { OnOk result ((output : List ℕ) × (out.new.items ≡ out.old.items ++ output) × Step self.old.state text.now Done.Ok output self.new.state) }
         ensures refused { IfErr result (StopsBy (λ error. (out.new.items ≡ out.old.items) × Step self.old.state text.now Done.Refused (error_line error) self.new.state)) }
     {
         let tokens = tokens(self.alloc, text)?;
         let command = read_command(self.alloc, tokens.as_slice())?;
-        self.run(command, out)
+        self.run(command, out, work)
     }
 
-    fn run(&mut self, command: Command, out: &mut Vec<u8>) -> Result<(), Stop>
+    fn run<L: Ledger>(
+        &mut self,
+        command: Command,
+        out: &mut Vec<u8>,
+        work: &mut Work<L>,
+    ) -> Result<(), Stop>
         ensures ran { self.new.ran ≡ self.old.ran }
         ensures done { OnOk result ((output : List ℕ) × (out.new.items ≡ out.old.items ++ output) × Performs self.old.state command Done.Ok output self.new.state) }
         ensures refused { IfErr result (StopsBy (λ error. (out.new.items ≡ out.old.items) × Performs self.old.state command Done.Refused (error_line error) self.new.state)) }
     {
         match command {
-            Command::Statement(tree) => self.select(tree, out),
-            Command::Prepare(tree) => self.prepare(tree, out),
+            Command::Statement(tree) => self.select(tree, out, work),
+            Command::Prepare(tree) => self.prepare(tree, out, work),
             Command::Execute(tree) => self.execute(tree, out),
             _ => Err(refusal(self.alloc, Code::NotBuilt)),
         }

@@ -1,0 +1,16 @@
+pub mod Aggregates
+pub mod Analysis
+pub mod Arguments
+pub mod Calls
+pub mod Clauses
+pub mod Expressions
+pub mod Nodes
+pub mod Numbers
+pub mod Operators
+pub mod Ordering
+pub mod Outputs
+pub mod Params
+pub mod Queries
+pub mod Same
+pub mod Statements
+pub mod Types

@@ -1,0 +1,100 @@
+ghost use Rattle.std.specs.Prelude.{◌≡◌, [], suc};
+ghost use Rattle.q_value.specs.Answers.{Answers};
+ghost use Rattle.analyzer.specs.Analysis.{Does};
+ghost use Rattle.analyzer.specs.Arguments as spec;
+
+use crate::expressions::operand;
+use crate::node::give;
+use crate::refusals::refusal_naming_three;
+use crate::state::{Place, State};
+use q_base::{Code, ListOf, Stop};
+use q_value::SqlType;
+use query_tree::{Target, TargetList};
+use sql_tree::Expr;
+use std::alloc::Global;
+
+/// The arguments of EXECUTE, each for the parameter at its place. Arguments past the types are left out.
+///
+/// They hold no columns (42703, 42P01), parameters (42P02) or aggregates (42803). An argument whose type isn't
+/// assigned to the parameter's is 42804; the value itself is converted later.
+pub fn analyse_args(alloc: Global, args: &[Expr], types: &[SqlType]) -> Result<TargetList, Stop>
+    ensures { Answers (spec.analysed args.now types.now) result }
+{
+    let mut state = State::new(alloc, None)?;
+    read_arguments(alloc, &mut state, args, types)
+}
+
+fn read_arguments(
+    alloc: Global,
+    state: &mut State,
+    args: &[Expr],
+    types: &[SqlType],
+) -> Result<TargetList, Stop>
+    ensures { Does (spec.arguments_from [] args.now types.now state.old) result state.new }
+{
+    let mut found = ListOf::new(alloc);
+    let mut kinds = types;
+    for arg in args {
+        let [kind, others @ ..] = kinds else {
+            return Ok(found);
+        };
+        let number = found.as_slice().len() + 1;
+        found.push(argument(alloc, state, number, *kind, arg)?)?;
+        kinds = others;
+    }
+    Ok(found)
+}
+
+#[tactic(auto, unfolding(crate::specs::Arguments::argument))]
+fn argument(
+    alloc: Global,
+    state: &mut State,
+    number: usize,
+    kind: SqlType,
+    written: &Expr,
+) -> Result<Target, Stop>
+    ensures { Does (spec.argument number kind written.now state.old) result state.new }
+{
+    let node = operand(alloc, state, argument_place(), written)?;
+    let target = give(alloc, state, node, kind)?;
+    if is_assignable(target.kind(), kind) {
+        Ok(target)
+    } else {
+        Err(not_assignable(alloc, number, target.kind(), kind))
+    }
+}
+
+fn argument_place() -> Place
+    ensures { result ≡ spec.argument_place }
+{
+    Place {
+        aggregates: false,
+        arithmetic: true,
+        in_aggregate: false,
+    }
+}
+
+/// Integers to one another, integers and booleans to text, and every type to itself.
+fn is_assignable(from: SqlType, to: SqlType) -> bool
+    ensures { result ≡ spec.is_assignable from to }
+{
+    match (from, to) {
+        (_, SqlType::Text) => true,
+        (SqlType::Int2 | SqlType::Int4 | SqlType::Int8, SqlType::Bool) => false,
+        (SqlType::Int2 | SqlType::Int4 | SqlType::Int8, _) => true,
+        (SqlType::Bool, SqlType::Bool) => true,
+        (SqlType::Bool | SqlType::Text, _) => false,
+    }
+}
+
+fn not_assignable(alloc: Global, number: usize, from: SqlType, to: SqlType) -> Stop
+    ensures { spec.StopsByArgument number from to result }
+{
+    match number.to_string(alloc) {
+        Ok(text) => {
+            let code = Code::ParameterTypeMismatch;
+            refusal_naming_three(alloc, code, text.as_str(), from.name(), to.name())
+        }
+        Err(_) => Stop::NoMemory,
+    }
+}

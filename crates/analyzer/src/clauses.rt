@@ -1,0 +1,113 @@
+//! WHERE, GROUP BY, HAVING, LIMIT and OFFSET.
+
+ghost use Rattle.std.specs.Prelude.{◌≡◌, ◌++◌, [], map, OnOk, IfOk};
+ghost use Rattle.q_value.specs.Answers.{Answers};
+ghost use Rattle.analyzer.specs.Analysis.{Does};
+ghost use Rattle.analyzer.specs.Clauses as spec;
+
+use crate::expressions::{column, operand};
+use crate::node::{Node, condition_of, give, typed};
+use crate::numbers::{bigint_constant, shown_number};
+use crate::params::param;
+use crate::refusals::refusal_naming_three;
+use crate::state::{Place, State};
+use q_base::{Code, ListOf, NoMemory, Stop};
+use q_value::{SqlType, Value};
+use query_tree::{CondList, Target, TargetList};
+use sql_tree::{ColumnRef, Expr, RowCount};
+use std::alloc::Global;
+
+/// The conjuncts of the condition of a clause: 42804 where it is no boolean.
+#[tactic(auto, unfolding(crate::specs::Clauses::condition))]
+pub(crate) fn condition(
+    alloc: Global,
+    state: &mut State,
+    place: Place,
+    clause: &str,
+    written: &Option<Expr>,
+) -> Result<CondList, Stop>
+    ensures { Does (spec.condition place clause.now written.now state.old) result state.new }
+{
+    let mut found = ListOf::new(alloc);
+    if let Some(written) = written {
+        let node = operand(alloc, state, place, written)?;
+        let whole = condition_of(alloc, node, clause)?;
+        part(alloc, &mut found, &whole)?;
+    }
+    Ok(found)
+}
+
+/// Parts a condition at each AND that stands under nothing but AND; BETWEEN is such an AND.
+#[cycle(part)]
+fn part(alloc: Global, found: &mut CondList, whole: &Target) -> Result<(), NoMemory>
+    ensures { OnOk result (found.new ≡ found.old ++ spec.conjuncts whole.now) }
+{
+    match whole {
+        Target::And(operands) => part_each(alloc, found, operands.as_slice()),
+        _ => found.push(whole.copy(alloc)?),
+    }
+}
+
+#[cycle(part)]
+fn part_each(alloc: Global, found: &mut CondList, operands: &[Target]) -> Result<(), NoMemory>
+    ensures { OnOk result (found.new ≡ found.old ++ spec.parted (map spec.conjuncts_of operands.now) operands.now) }
+{
+    for operand in operands {
+        part(alloc, found, operand)?;
+    }
+    Ok(())
+}
+
+/// The keys of GROUP BY, which are columns.
+pub(crate) fn keys(alloc: Global, written: &[ColumnRef]) -> Result<TargetList, Stop>
+    ensures { Answers (spec.keys_from [] written.now) result }
+{
+    let mut found = ListOf::new(alloc);
+    for key in written {
+        found.push(typed(alloc, column(alloc, key)?, SqlType::Text)?)?;
+    }
+    Ok(found)
+}
+
+/// LIMIT or OFFSET: a number, a parameter of an integer type, or null.
+#[tactic(auto, unfolding(crate::specs::Clauses::row_count))]
+pub(crate) fn row_count(
+    alloc: Global,
+    state: &mut State,
+    written: &Option<RowCount>,
+) -> Result<Option<Target>, Stop>
+    ensures { Does (spec.row_count written.now state.old) result state.new }
+{
+    match written {
+        None => Ok(None),
+        Some(RowCount::Null) => Ok(Some(Target::Const(SqlType::Int8, Value::Null))),
+        Some(RowCount::Number(numeral)) => Ok(Some(bigint_constant(alloc, numeral)?)),
+        Some(RowCount::Param(digits)) => {
+            let node = param(alloc, state, digits.as_str())?;
+            Ok(Some(counted(alloc, state, digits.as_str(), node)?))
+        }
+    }
+}
+
+#[tactic(auto, unfolding(crate::specs::Clauses::counted))]
+fn counted(alloc: Global, state: &mut State, digits: &str, node: Node) -> Result<Target, Stop>
+    ensures { Does (spec.counted digits.now node state.old) result state.new }
+{
+    let target = give(alloc, state, node, SqlType::Int8)?;
+    match target.kind() {
+        SqlType::Int2 | SqlType::Int4 | SqlType::Int8 => Ok(target),
+        other => Err(no_count(alloc, digits, other)),
+    }
+}
+
+fn no_count(alloc: Global, digits: &str, kind: SqlType) -> Stop
+    ensures { spec.StopsByCount digits.now kind result }
+{
+    match shown_number(alloc, false, digits) {
+        Ok(shown) => {
+            let code = Code::ParameterTypeMismatch;
+            refusal_naming_three(alloc, code, shown.as_str(), kind.name(), "bigint")
+        }
+        Err(_) => Stop::NoMemory,
+    }
+}

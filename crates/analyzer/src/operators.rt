@@ -1,0 +1,262 @@
+ghost use Rattle.std.specs.Prelude.{◌≡◌, IfOk};
+ghost use Rattle.q_value.specs.Answers.{Answers};
+ghost use Rattle.analyzer.specs.Analysis.{Does};
+ghost use Rattle.analyzer.specs.Operators as spec;
+
+use crate::node::{Node, give, typed};
+use crate::refusals::refusal_naming_three;
+use crate::state::{Place, State};
+use q_base::{Code, NoMemory, Stop, refusal, refusal_naming};
+use q_scalar::{Op, find_op};
+use q_value::SqlType;
+use query_tree::{ArithmeticOp, CompareOp, Target};
+use sql_tree::{Arithmetic, Comparison};
+use sqlite_items::Boxed;
+use std::alloc::Global;
+
+/// The two operands of an operator, typed.
+#[derive(Drop)]
+pub struct Operands {
+    pub left: Target,
+    pub right: Target,
+}
+
+fn compare_op(written: Comparison) -> CompareOp
+    ensures { result ≡ spec.compare_op written }
+{
+    match written {
+        Comparison::Equal => CompareOp::Equal,
+        Comparison::NotEqual => CompareOp::NotEqual,
+        Comparison::Less => CompareOp::Less,
+        Comparison::LessEqual => CompareOp::LessEqual,
+        Comparison::Greater => CompareOp::Greater,
+        Comparison::GreaterEqual => CompareOp::GreaterEqual,
+    }
+}
+
+fn compare_sign(written: Comparison) -> &'static str
+    ensures { result.now ≡ spec.compare_sign written }
+{
+    match written {
+        Comparison::Equal => "=",
+        Comparison::NotEqual => "<>",
+        Comparison::Less => "<",
+        Comparison::LessEqual => "<=",
+        Comparison::Greater => ">",
+        Comparison::GreaterEqual => ">=",
+    }
+}
+
+/// The comparison as the table of operators knows it.
+fn compare_key(written: Comparison) -> Op
+    ensures { result ≡ spec.compare_key written }
+{
+    match written {
+        Comparison::Equal => Op::Equal,
+        Comparison::NotEqual => Op::NotEqual,
+        Comparison::Less => Op::Less,
+        Comparison::LessEqual => Op::LessEqual,
+        Comparison::Greater => Op::Greater,
+        Comparison::GreaterEqual => Op::GreaterEqual,
+    }
+}
+
+/// The arithmetic as the table of operators knows it.
+fn arithmetic_key(written: Arithmetic) -> Op
+    ensures { result ≡ spec.arithmetic_key written }
+{
+    match written {
+        Arithmetic::Add => Op::Add,
+        Arithmetic::Subtract => Op::Subtract,
+        Arithmetic::Multiply => Op::Multiply,
+        Arithmetic::Divide => Op::Divide,
+    }
+}
+
+fn arithmetic_op(written: Arithmetic) -> ArithmeticOp
+    ensures { result ≡ spec.arithmetic_op written }
+{
+    match written {
+        Arithmetic::Add => ArithmeticOp::Add,
+        Arithmetic::Subtract => ArithmeticOp::Subtract,
+        Arithmetic::Multiply => ArithmeticOp::Multiply,
+        Arithmetic::Divide => ArithmeticOp::Divide,
+    }
+}
+
+fn arithmetic_sign(written: Arithmetic) -> &'static str
+    ensures { result.now ≡ spec.arithmetic_sign written }
+{
+    match written {
+        Arithmetic::Add => "+",
+        Arithmetic::Subtract => "-",
+        Arithmetic::Multiply => "*",
+        Arithmetic::Divide => "/",
+    }
+}
+
+/// The operands of an operator, where one without a type takes that of the other.
+#[tactic(auto, unfolding(crate::specs::Operators::paired))]
+fn paired(alloc: Global, state: &mut State, left: Node, right: Node) -> Result<Operands, Stop>
+    ensures { Does (spec.paired left right state.old) result state.new }
+{
+    match (left, right) {
+        (Node::Typed(left), right) => {
+            let right = give(alloc, state, right, left.kind())?;
+            Ok(Operands { left, right })
+        }
+        (left, Node::Typed(right)) => {
+            let left = give(alloc, state, left, right.kind())?;
+            Ok(Operands { left, right })
+        }
+        (left, right) => texts(alloc, state, left, right),
+    }
+}
+
+/// Two operands without a type are texts. A refused one gives a parameter beside it no type.
+#[tactic(auto, unfolding(crate::specs::Operators::texts))]
+fn texts(alloc: Global, state: &mut State, left: Node, right: Node) -> Result<Operands, Stop>
+    ensures { Does (spec.texts left right state.old) result state.new }
+{
+    if left.is_refused() || right.is_refused() {
+        let left = typed(alloc, left, SqlType::Text)?;
+        let right = typed(alloc, right, SqlType::Text)?;
+        Ok(Operands { left, right })
+    } else {
+        let left = give(alloc, state, left, SqlType::Text)?;
+        let right = give(alloc, state, right, SqlType::Text)?;
+        Ok(Operands { left, right })
+    }
+}
+
+/// A comparison: 42883 where its operands can't be compared.
+#[tactic(auto, unfolding(crate::specs::Operators::comparison))]
+pub(crate) fn comparison(
+    alloc: Global,
+    state: &mut State,
+    op: Comparison,
+    left: Node,
+    right: Node,
+) -> Result<Node, Stop>
+    ensures { Does (spec.comparison op left right state.old) result state.new }
+{
+    let operands = paired(alloc, state, left, right)?;
+    compared(alloc, op, operands)
+}
+
+#[tactic(auto, unfolding(crate::specs::Operators::compared))]
+fn compared(alloc: Global, op: Comparison, operands: Operands) -> Result<Node, Stop>
+    ensures { Answers (spec.compared op operands) result }
+{
+    let Operands { left, right } = operands;
+    match find_op(compare_key(op), left.kind(), right.kind()) {
+        Some(_) => Ok(Node::Typed(compare_node(alloc, compare_op(op), left, right)?)),
+        None => Err(no_operator(alloc, compare_sign(op), left.kind(), right.kind())),
+    }
+}
+
+fn no_operator(alloc: Global, sign: &str, left: SqlType, right: SqlType) -> Stop
+    ensures { spec.StopsByNone sign.now left right result }
+{
+    refusal_naming_three(
+        alloc,
+        Code::UnknownOperator,
+        left.name(),
+        sign,
+        right.name(),
+    )
+}
+
+fn compare_node(
+    alloc: Global,
+    op: CompareOp,
+    left: Target,
+    right: Target,
+) -> Result<Target, NoMemory>
+    ensures { IfOk result (λ target. target ≡ Target.Compare op left right) }
+{
+    let left = Boxed::new(alloc, left)?;
+    Ok(Target::Compare(op, left, Boxed::new(alloc, right)?))
+}
+
+/// Arithmetic: 42725 where neither operand has a type, 42883 where one is no integer, then 0A000 by its place.
+#[tactic(auto, unfolding(crate::specs::Operators::arithmetic))]
+pub(crate) fn arithmetic(
+    alloc: Global,
+    state: &mut State,
+    place: Place,
+    op: Arithmetic,
+    left: Node,
+    right: Node,
+) -> Result<Node, Stop>
+    ensures { Does (spec.arithmetic place op left right state.old) result state.new }
+{
+    if !left.is_typed() && !right.is_typed() {
+        let sign = arithmetic_sign(op);
+        return Err(refusal_naming_three(
+            alloc,
+            Code::AmbiguousOperator,
+            "unknown",
+            sign,
+            "unknown",
+        ));
+    }
+    let operands = paired(alloc, state, left, right)?;
+    computed(alloc, place, op, operands)
+}
+
+#[tactic(auto, unfolding(crate::specs::Operators::computed))]
+fn computed(alloc: Global, place: Place, op: Arithmetic, operands: Operands) -> Result<Node, Stop>
+    ensures { Answers (spec.computed place op operands) result }
+{
+    let Operands { left, right } = operands;
+    let Some(row) = find_op(arithmetic_key(op), left.kind(), right.kind()) else {
+        return Err(no_operator(alloc, arithmetic_sign(op), left.kind(), right.kind()));
+    };
+    if !has_arithmetic(place) {
+        return Err(refusal(alloc, Code::ArithmeticNotSupported));
+    }
+    let op = arithmetic_op(op);
+    Ok(Node::Typed(arithmetic_node(alloc, op, row.result, left, right)?))
+}
+
+/// Within the argument of an aggregate the aggregate alone judges arithmetic.
+fn has_arithmetic(place: Place) -> bool
+    ensures { result ≡ spec.has_arithmetic place }
+{
+    place.arithmetic || place.in_aggregate
+}
+
+fn arithmetic_node(
+    alloc: Global,
+    op: ArithmeticOp,
+    kind: SqlType,
+    left: Target,
+    right: Target,
+) -> Result<Target, NoMemory>
+    ensures { IfOk result (λ target. target ≡ Target.Arithmetic op kind left right) }
+{
+    let left = Boxed::new(alloc, left)?;
+    Ok(Target::Arithmetic(op, kind, left, Boxed::new(alloc, right)?))
+}
+
+/// A unary minus, by the same causes.
+#[tactic(auto, unfolding(crate::specs::Operators::minus))]
+pub(crate) fn minus(alloc: Global, place: Place, operand: Node) -> Result<Node, Stop>
+    ensures { Answers (spec.minus place operand) result }
+{
+    let Node::Typed(operand) = operand else {
+        return Err(refusal_naming(alloc, Code::AmbiguousMinus, "unknown"));
+    };
+    let kind = operand.kind();
+    match kind {
+        SqlType::Int2 | SqlType::Int4 | SqlType::Int8 => {}
+        SqlType::Text | SqlType::Bool => {
+            return Err(refusal_naming(alloc, Code::UnknownMinus, kind.name()));
+        }
+    }
+    if !has_arithmetic(place) {
+        return Err(refusal(alloc, Code::ArithmeticNotSupported));
+    }
+    Ok(Node::Typed(Target::Negate(kind, Boxed::new(alloc, operand)?)))
+}

@@ -1,0 +1,103 @@
+ghost use Rattle.std.specs.Prelude.{◌≡◌, ◌+◌, OnOk, IfOk};
+ghost use Rattle.std.specs.Option.{option_copied};
+ghost use Rattle.analyzer.specs.Statements as spec;
+
+use crate::queries::{Parts, Typed, query_of, read_select, types_of};
+use crate::state::State;
+use q_base::{Code, ListOf, NoMemory, Stop, Work, refusal};
+use q_value::{SqlType, TypeList};
+use query_tree::{Bound, ResultType};
+use sql_tree::{Select, Statement};
+use std::alloc::Global;
+use std::rc::Rc;
+use std::sync::ledger::Ledger;
+
+/// What an analysis gives.
+#[derive(Drop)]
+pub struct Analysed {
+    pub bound: Rc<Bound>,
+    /// The types of the parameters, from `$1` on.
+    pub params: TypeList,
+    pub result: ResultType,
+}
+
+/// Analyses a statement, or refuses it by its first refusal. `declared` has the types that PREPARE declares,
+/// and is `None` exactly outside PREPARE, where no parameter stands (42P02). A parameter without a declared
+/// type takes that of its first use (PostgreSQL's manual, "PREPARE"). One analysis is counted in either case.
+///
+/// The order of refusals is this project's own. A statement other than a SELECT without FROM is refused as not
+/// built yet.
+pub fn analyse<L: Ledger>(
+    alloc: Global,
+    tree: &Statement,
+    declared: Option<&[SqlType]>,
+    work: &mut Work<L>,
+) -> Result<Analysed, Stop>
+    ensures analysed { spec.AnalysedAs (spec.statement (option_copied declared.entry) tree.now) result }
+    ensures counted { work.new ≡ record work.old { analyses = work.old.analyses + 1 } }
+{
+    work.count_analysis();
+    match tree {
+        Statement::Select(select) => analyse_select(alloc, select, declared),
+        Statement::ViewSelect(_)
+        | Statement::Insert(_)
+        | Statement::Update(_)
+        | Statement::Delete(_) => Err(refusal(alloc, Code::NotBuilt)),
+    }
+}
+
+#[tactic(auto, unfolding(crate::specs::Statements::select))]
+fn analyse_select(
+    alloc: Global,
+    select: &Select,
+    declared: Option<&[SqlType]>,
+) -> Result<Analysed, Stop>
+    ensures { spec.AnalysedAs (spec.select (option_copied declared.entry) select.now) result }
+{
+    if !select.core.from.as_slice().is_empty() {
+        return Err(refusal(alloc, Code::NotBuilt));
+    }
+    let mut state = State::new(alloc, declared)?;
+    if state.first {
+        settle(alloc, &mut state, select)?;
+    }
+    let parts = read_select(alloc, &mut state, select)?;
+    Ok(finish(alloc, state, select, parts)?)
+}
+
+/// The first reading, which settles the types of the parameters. What it refuses, the second one refuses by
+/// the order of refusals.
+#[tactic(auto, unfolding(crate::specs::Statements::settled))]
+fn settle(alloc: Global, state: &mut State, select: &Select) -> Result<(), NoMemory>
+    ensures { OnOk result (state.new ≡ spec.settled select.now state.old) }
+{
+    match read_select(alloc, state, select) {
+        Ok(_) | Err(Stop::Sql(_)) => {
+            state.first = false;
+            state.aggregates = ListOf::new(alloc);
+            Ok(())
+        }
+        Err(Stop::NoMemory) => Err(NoMemory),
+    }
+}
+
+fn finish(alloc: Global, state: State, select: &Select, parts: Parts) -> Result<Analysed, NoMemory>
+    ensures { IfOk result (λ analysed. spec.seen analysed ≡ spec.finished select.now parts state) }
+{
+    let State {
+        known,
+        aggregates,
+        ..
+    } = state;
+    let params = types_of(alloc, known.as_slice())?;
+    let Typed { query, columns } = query_of(alloc, select, parts, aggregates)?;
+    let bound = Rc::new(alloc, Bound::Select(query))?;
+    let result = ResultType {
+        columns: Some(columns),
+    };
+    Ok(Analysed {
+        bound,
+        params,
+        result,
+    })
+}
