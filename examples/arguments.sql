@@ -1,0 +1,22 @@
+-- Arguments are typed in order, and then evaluated in order.
+PREPARE a0(integer, bigint, text) AS SELECT $1, $2, $3; EXECUTE a0(1, '2', null);
+PREPARE a1(text) AS SELECT $1; EXECUTE a1(1);
+PREPARE a2(text) AS SELECT $1; EXECUTE a2(true);
+PREPARE a3(integer) AS SELECT $1; EXECUTE a3(3000000000);
+PREPARE a4(integer) AS SELECT $1; EXECUTE a4('x');
+PREPARE a5(bigint, integer) AS SELECT $1, $2; EXECUTE a5(1 + 2, -3 * 2);
+PREPARE a6(integer) AS SELECT $1; EXECUTE a6(true);
+PREPARE a7(boolean) AS SELECT $1; EXECUTE a7(1);
+PREPARE a8(boolean) AS SELECT $1; EXECUTE a8('a' = 'b');
+PREPARE a9(integer, integer) AS SELECT $1, $2; EXECUTE a9(1, a);
+PREPARE a10(integer) AS SELECT $1; EXECUTE a10(t.a);
+PREPARE a11(integer) AS SELECT $1; EXECUTE a11($1);
+PREPARE a12(bigint) AS SELECT $1; EXECUTE a12(count(*));
+PREPARE a13(bigint) AS SELECT $1; EXECUTE a13(sum(true));
+PREPARE a14(integer, smallint) AS SELECT $1, $2; EXECUTE a14(1, 'a');
+PREPARE a15(boolean, integer) AS SELECT $1, $2; EXECUTE a15(1 = true, 'x');
+PREPARE a16(integer) AS SELECT $1; EXECUTE a16('3000000000');
+PREPARE p(integer) AS SELECT $1 / 2, $1 = 3; EXECUTE p(7); EXECUTE p('x'); EXECUTE p(2147483648);
+PREPARE q(integer, smallint) AS SELECT $1 + $2; EXECUTE q(1 / 0, 'x'); EXECUTE q(2147483648, 1 / 0); EXECUTE q(1, 40000); EXECUTE q(2147483647, 1);
+EXECUTE q(1); EXECUTE q(1, 2, 3); EXECUTE nobody(1); PREPARE q AS SELECT 1; PREPARE r(money) AS SELECT 1; PREPARE r(int2, int, int8, bool, text) AS SELECT $5, $4, $3, $2, $1;
+EXECUTE r('1', '2', '3', ' TRU ', 4); EXECUTE r(NULL, NULL, NULL, NULL, NULL); EXECUTE r(1, 2, 3, 'x', 4);
