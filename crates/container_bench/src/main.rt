@@ -25,9 +25,7 @@ fn main(rt: HostRuntime) -> ExitCode {
 }
 
 fn run(rt: &HostRuntime) -> Result<(), Failed> {
-    let words = env::args(rt)?
-        .skip(1)
-        .collect::<Vec<String>>(rt.alloc())?;
+    let words = env::args(rt)?.skip(1).collect::<Vec<String>>(rt.alloc())?;
     match words.as_slice() {
         [] => Ok(()),
         [container, count] => run_one(rt, container.as_str(), count_of(count.as_str())?),

@@ -44,12 +44,7 @@ impl From<Stop> for Failed {
 
 /// Prints an operation's name, how often it was done, and the time since `start`: seconds, and
 /// nanoseconds past them.
-pub fn report(
-    rt: &HostRuntime,
-    operation: &str,
-    done: u32,
-    start: Instant,
-) -> Result<(), Failed> {
+pub fn report(rt: &HostRuntime, operation: &str, done: u32, start: Instant) -> Result<(), Failed> {
     let spent = start.elapsed(rt)?;
     let seconds = spent.as_secs();
     let nanos = spent.subsec_nanos();

@@ -1,5 +1,6 @@
 ghost use Rattle.std.specs.Prelude.{◌≡◌, ◌<◌, ◌≤◌, ◌+◌, ◌^◌, [], OnOk, length};
-ghost use Rattle.row_versions.specs.State.{IsAdded, KeepsMarks};
+ghost use Rattle.row_versions.specs.Marks.{Mark};
+ghost use Rattle.row_versions.specs.State.{IsAdded, Stands};
 ghost use Rattle.row_versions.specs.Stored.{slots_of};
 
 use crate::report::{Failed, report, scattered};
@@ -25,6 +26,8 @@ pub fn run(rt: &HostRuntime, count: u32) -> Result<(), Failed> {
 
 fn read(rt: &HostRuntime, heaps: &mut Heaps, count: u32) -> Result<(), Failed>
     requires { heaps.old.newest < 2 ^ 32 }
+    ensures newest { heaps.new.newest ≡ heaps.old.newest + 1 }
+    ensures pins { heaps.new.pins ≡ heaps.old.pins }
 {
     let snap = heaps.advance();
     let start = Instant::now(rt)?;
@@ -102,7 +105,7 @@ fn update(alloc: Global, heaps: &mut Heaps, count: u32) -> Result<(), NoMemory>
     requires { heaps.old.newest < 2 ^ 40 }
     ensures newest { OnOk result (heaps.new.newest ≤ heaps.old.newest + count) }
     ensures pins { OnOk result (heaps.new.pins ≡ heaps.old.pins) }
-    ensures marks { OnOk result (KeepsMarks heaps.old heaps.new) }
+    ensures marks { OnOk result ((mark : Mark) → Stands heaps.old mark → Stands heaps.new mark) }
 {
     for number in 0..count {
         update_one(alloc, heaps, number)?;
@@ -114,7 +117,7 @@ fn update_one(alloc: Global, heaps: &mut Heaps, number: u32) -> Result<(), NoMem
     requires { heaps.old.newest < 2 ^ 41 }
     ensures newest { OnOk result (heaps.new.newest ≡ heaps.old.newest + 1) }
     ensures pins { OnOk result (heaps.new.pins ≡ heaps.old.pins) }
-    ensures marks { OnOk result (KeepsMarks heaps.old heaps.new) }
+    ensures marks { OnOk result ((mark : Mark) → Stands heaps.old mark → Stands heaps.new mark) }
 {
     let snap = heaps.advance();
     let slot = SlotId(u64::from(number));
