@@ -19,4 +19,5 @@ mod Rows
 mod Shown
 mod Sounds
 mod Steps
+mod TableLemmas
 mod Undone

@@ -1,5 +1,4 @@
-use Rattle.std.proofs.Common.{◌≡◌, ℕ, ◌+◌, ◌-◌, ◌<◌, ◌≤◌, Bool, true, false, Option, Some, None, List, [], ◌∷◌, ◌++◌, length, get_or, suc, zero, refl, sym, ap, ◌∙◌, subst, arith}
-use Rattle.std.specs.Prelude.{is_some}
+use Rattle.std.proofs.Common.{◌≡◌, ℕ, ◌<◌, true, Some, None, List, [], ◌∷◌, ◌++◌, length, refl, sym, ap, ◌∙◌, arith}
 use Rattle.std.specs.Option.{option_map_or}
 use Rattle.q_base.specs.declared.ids.ObjId.{ObjId}
 use Rattle.q_value.specs.declared.value.Value.{Value}
@@ -10,8 +9,8 @@ use Rattle.row_versions.specs.declared.slot.Version.{Version}
 use Rattle.row_versions.specs.declared.tables.Place.{Place}
 use Rattle.row_versions.specs.Versions.{shown_in, with_version, superseded, ended, taken_back}
 use Rattle.row_versions.specs.Stored.{Stored, changed, in_place, with_slot, slots_at, slots_of, versions_in, rows_in, position_of, is_live}
-use Rattle.row_versions.specs.Sound.{IsHistory, IsSound}
-use Rattle.row_versions.specs.State.{State, before, undone, replaced, without, Inserts, Supersedes, Ends, Changes}
+use Rattle.row_versions.specs.Sound.{IsSound}
+use Rattle.row_versions.specs.State.{State, before, undone, replaced, without, Inserts, Supersedes, Ends, Changes, KeepsTables}
 use Rattle.row_versions.proofs.Histories.{shown_in_new, shown_in_ended, shown_in_newest, newest_row, is_some_shown, IsHistory-superseded, IsHistory-ended, taken_back_ended}
 use Rattle.row_versions.proofs.Places.{position_of-in_place, position_of-with_slot, slots_at-with_slot, slots_at-with_slot_other, slots_at-in_place, slots_at-in_place_other, in_place-with_slot, in_place_twice, in_place_same}
 use Rattle.row_versions.proofs.Positions.{position_below}
@@ -19,6 +18,7 @@ use Rattle.row_versions.proofs.Rows.{rows_padded, rows_in-pushed}
 use Rattle.row_versions.proofs.Logs.{undone_padded, rows_before}
 use Rattle.row_versions.proofs.Replaced.{rows_in-replaced, rows_in-without}
 use Rattle.row_versions.proofs.Marks.{changes_made}
+use Rattle.row_versions.proofs.TableLemmas.{in_place_length, slots_at-more, tables_kept}
 
 -- the slots of a table are those at its place
 pub slots_there : (table : ObjId) (tables : List Stored) (place : ℕ) → position_of table.0 tables ≡ Some place → slots_of table tables ≡ slots_at place tables
@@ -36,6 +36,7 @@ inserts_made row table place old live stale sound added next =
       place = place;
       slot_is = refl;
       next = next ∙ ap length (sym (slots_there table old.tables place.table added));
+      tables = tables_kept 1 old (record old { tables = after; log = change ∷ old.log }) places (λ t. slots_at-more version old.tables place.table t);
       changes = changes_made change table after old live stale sound added refl places
           (λ t ne. slots_at-with_slot_other version old.tables place.table t ne)
           (λ snap t lt. rows_padded version old.tables place.table t snap (shown_in_new row old.newest snap [] lt))
@@ -45,6 +46,12 @@ inserts_made row table place old live stale sound added next =
           ∙ rows_in-pushed version row (slots_at place.table old.tables) 0 place.slot old.newest (shown_in_newest old.newest version (omega arith, tt, tt)) (omega arith)
           ∙ ap (λ slots. rows_in 0 slots old.newest ++ (place.slot, row) ∷ []) (sym (slots_there table old.tables place.table added));
     }
+
+in_place_kept : (f : List Version → List Version) (deed : Deed) (place : Place) (old : State) → KeepsTables 0 old (record old { tables = in_place place f old.tables; log = record { place = place; deed = deed; moment = old.newest } ∷ old.log })
+in_place_kept f deed place old =
+    tables_kept 0 old (record old { tables = in_place place f old.tables; log = record { place = place; deed = deed; moment = old.newest } ∷ old.log })
+    (λ id. position_of-in_place f old.tables place id)
+    (λ t. omega (arith, in_place_length f old.tables place t))
 
 -- a change of a live row that leaves what was shown before
 changed_made : (f : List Version → List Version) (deed : Deed) (table : ObjId) (place : Place) (old : State) (live : ℕ) (stale : List Place) → IsSound old.tables old.newest live old.pins old.log stale
@@ -75,6 +82,7 @@ supersedes_made row table place old live stale sound added was =
     record {
       place = place;
       slot_is = refl;
+      tables = in_place_kept (superseded row old.newest) Superseded place old;
       changes = changed_made (superseded row old.newest) Superseded table place old live stale sound added
           (λ snap lt. shown_in_new row old.newest snap (ended old.newest versions) lt ∙ shown_in_ended old.newest snap versions was lt)
           (taken_back_ended old.newest versions was);
@@ -96,6 +104,7 @@ ends_made table place old live stale sound added was =
     record {
       place = place;
       slot_is = refl;
+      tables = in_place_kept (ended old.newest) Ended place old;
       changes = changed_made (ended old.newest) Ended table place old live stale sound added
           (λ snap lt. shown_in_ended old.newest snap versions was lt)
           (taken_back_ended old.newest versions was);

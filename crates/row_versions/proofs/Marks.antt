@@ -1,16 +1,14 @@
-use Rattle.std.proofs.Common.{◌≡◌, ℕ, ◌+◌, ◌-◌, ◌<◌, ◌≤◌, Bool, true, false, Option, Some, None, List, [], ◌∷◌, ◌++◌, cond, eqb, length, get_or, take, drop, suc, zero, refl, sym, ap, ◌∙◌, subst, inl, inr, arith}
-use Rattle.std.specs.Prelude.{All, Contains, ◌⊎◌}
+use Rattle.std.proofs.Common.{◌≡◌, ℕ, ◌-◌, ◌<◌, ◌≤◌, Bool, true, false, Option, Some, None, List, [], ◌∷◌, cond, eqb, length, take, suc, zero, refl, sym, ap, ◌∙◌, subst, arith}
+use Rattle.std.specs.Prelude.{All, Contains}
 use Rattle.std.specs.Option.{option_map, option_map_or}
-use Rattle.std.proofs.lemmas.Bool.{cases_eq, eqb-true}
+use Rattle.std.proofs.lemmas.Bool.{eqb-true}
 use Rattle.q_base.specs.declared.ids.ObjId.{ObjId}
-use Rattle.q_value.specs.declared.value.Value.{Value}
 use Rattle.row_versions.specs.declared.heaps.Change.{Change}
-use Rattle.row_versions.specs.declared.slot.Version.{Version}
 use Rattle.row_versions.specs.Marks.{Mark}
 use Rattle.row_versions.specs.declared.tables.Place.{Place}
 use Rattle.row_versions.specs.Stored.{Stored, slots_at, slots_of, rows_in, position_of}
 use Rattle.row_versions.specs.Sound.{IsSound}
-use Rattle.row_versions.specs.State.{State, rows, rows_at, KeepsRows, KeepsPinned, KeepsMarks, KeepsMark, Stands, Changes, before, undone, since}
+use Rattle.row_versions.specs.State.{State, KeepsMark, Stands, Changes, before, undone}
 use Rattle.row_versions.proofs.Rows.{same_rows}
 use Rattle.row_versions.specs.Versions.{taken_back}
 use Rattle.row_versions.proofs.Places.{position_of-in_place}

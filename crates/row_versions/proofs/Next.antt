@@ -1,4 +1,4 @@
-use Rattle.std.proofs.Common.{◌≡◌, ℕ, ◌+◌, ◌-◌, ◌<◌, ◌≤◌, Option, Some, None, List, [], ◌∷◌, get_or, drop, suc, zero, refl, sym, ap, ◌∙◌, subst, inl, inr, arith}
+use Rattle.std.proofs.Common.{◌≡◌, ℕ, ◌+◌, ◌-◌, ◌<◌, ◌≤◌, Option, Some, None, List, [], ◌∷◌, get_or, drop, suc, zero, refl, sym, ap, ◌∙◌, inl, inr, arith}
 use Rattle.std.specs.Prelude.{◌⊎◌}
 use Rattle.std.proofs.lemmas.List.{get_or-drop, drop-drop}
 use Rattle.q_base.specs.declared.ids.ObjId.{ObjId}
@@ -6,7 +6,7 @@ use Rattle.q_value.specs.declared.value.Value.{Value}
 use Rattle.row_versions.specs.declared.slot.Version.{Version}
 use Rattle.row_versions.specs.Versions.{shown_in}
 use Rattle.row_versions.specs.Stored.{with_row, rows_in, first_of, slots_of}
-use Rattle.row_versions.specs.State.{State, shown, rows_from, IsLastRow, IsNextRow}
+use Rattle.row_versions.specs.State.{State, rows_from, IsLastRow, IsNextRow}
 
 -- where the first of the rows of slots is
 record Found (k : ℕ) (slots : List (List Version)) (snap : ℕ) : Type 0 where

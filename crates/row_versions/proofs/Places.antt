@@ -1,5 +1,5 @@
-use Rattle.std.proofs.Common.{◌≡◌, ℕ, ◌+◌, ◌<◌, ◌≤◌, Option, Some, None, List, [], ◌∷◌, ◌++◌, cond, eqb, length, get_or, suc, zero, refl, sym, ap, ◌∙◌, subst, arith}
-use Rattle.std.specs.Option.{option_map, option_map_or}
+use Rattle.std.proofs.Common.{◌≡◌, ℕ, ◌<◌, Some, List, [], ◌∷◌, ◌++◌, cond, eqb, length, get_or, suc, zero, refl, sym, ap, ◌∙◌, arith}
+use Rattle.std.specs.Option.{option_map}
 use Rattle.q_base.specs.declared.ids.ObjId.{ObjId}
 use Rattle.row_versions.specs.declared.slot.Version.{Version}
 use Rattle.row_versions.specs.declared.tables.Place.{Place}

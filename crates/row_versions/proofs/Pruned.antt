@@ -1,19 +1,18 @@
-use Rattle.std.proofs.Common.{◌≡◌, ℕ, ◌+◌, ◌-◌, ◌<◌, ◌≤◌, Bool, true, false, cond, eqb, Option, Some, None, List, [], ◌∷◌, ◌++◌, length, get_or, take, drop, set, suc, zero, min, refl, sym, ap, ◌∙◌, subst, inl, inr, arith}
-use Rattle.std.specs.Prelude.{Contains, count_by, sum_by, map, is_none, ◌⊎◌, ◌||◌, IsSomeAnd, IfSome}
+use Rattle.std.proofs.Common.{◌≡◌, ℕ, ◌+◌, ◌-◌, ◌<◌, ◌≤◌, Bool, true, false, cond, eqb, Option, Some, None, List, [], ◌∷◌, length, get_or, take, set, suc, zero, refl, sym, ap, ◌∙◌, subst, inl, inr, arith}
+use Rattle.std.specs.Prelude.{Contains, count_by, map, is_none, ◌⊎◌, ◌||◌, IsSomeAnd, IfSome}
 use Rattle.std.specs.List.{list_any, swap_remove}
-use Rattle.std.specs.Option.{option_map, option_map_or}
+use Rattle.std.specs.Option.{option_map}
 use Rattle.std.proofs.lemmas.List.{take-take, take-set, take_more, get_or_default}
 use Rattle.std.proofs.lemmas.List.Elements.{Contains-push_cases}
 use Rattle.std.proofs.lemmas.List.Sorted.{Contains-permutation, IsPermutation-swap_remove}
 use Rattle.std.proofs.lemmas.List.Sums.{sum_by-cons}
 use Rattle.std.proofs.lemmas.List.Folds.{list_any_at}
 use Rattle.q_base.specs.declared.ids.ObjId.{ObjId}
-use Rattle.q_value.specs.declared.value.Value.{Value}
 use Rattle.row_versions.specs.declared.slot.Version.{Version}
 use Rattle.row_versions.specs.declared.tables.Place.{Place}
 use Rattle.row_versions.specs.Versions.{is_shown, shown_in, is_needed, kept, is_settled}
 use Rattle.row_versions.specs.Stored.{Stored, changed, in_slot, in_place, with_row, slots_at, slots_of, versions_in, rows_in, position_of, is_live, live_of, pruned}
-use Rattle.row_versions.specs.Sound.{IsPast, ArePast, IsHistory}
+use Rattle.row_versions.specs.Sound.{ArePast, IsHistory}
 use Rattle.row_versions.proofs.Histories.{is_shown_newest}
 use Rattle.row_versions.proofs.Live.{one_if}
 use Rattle.row_versions.proofs.Places.{in_place_keeps, slots_at-in_place}
@@ -217,11 +216,11 @@ rows_in-pruned snaps [] k snap h = refl
 rows_in-pruned snaps (versions ∷ slots) k snap h =
     ap (λ row. with_row k row (rows_in (k + 1) (map (kept snaps) slots) snap)) (shown_in-kept snaps snap versions h) ∙ ap (with_row k (shown_in versions snap)) (rows_in-pruned snaps slots (k + 1) snap h)
 
-position_of-pruned : (snaps : List ℕ) (tables : List Stored) (id : ℕ) → position_of id (pruned snaps tables) ≡ position_of id tables
+pub position_of-pruned : (snaps : List ℕ) (tables : List Stored) (id : ℕ) → position_of id (pruned snaps tables) ≡ position_of id tables
 position_of-pruned snaps [] id = refl
 position_of-pruned snaps (table ∷ tables) id = ap (λ o. cond (eqb table.id.0 id) (Some 0) (option_map (λ n. suc n) o)) (position_of-pruned snaps tables id)
 
-slots_at-pruned : (snaps : List ℕ) (tables : List Stored) (t : ℕ) → slots_at t (pruned snaps tables) ≡ map (kept snaps) (slots_at t tables)
+pub slots_at-pruned : (snaps : List ℕ) (tables : List Stored) (t : ℕ) → slots_at t (pruned snaps tables) ≡ map (kept snaps) (slots_at t tables)
 slots_at-pruned snaps [] t = refl
 slots_at-pruned snaps (table ∷ tables) zero = refl
 slots_at-pruned snaps (table ∷ tables) (suc t) = slots_at-pruned snaps tables t

@@ -1,14 +1,14 @@
 use Rattle.std.proofs.Common.{◌≡◌, ℕ, ◌-◌, List, [], ◌∷◌, true, length, refl, sym, ap, ◌∙◌, subst, arith}
 use Rattle.std.specs.Prelude.{Contains, ◌⊎◌}
-use Rattle.q_base.specs.declared.ids.ObjId.{ObjId}
 use Rattle.row_versions.specs.declared.heaps.Change.{Change}
-use Rattle.row_versions.specs.Marks.{Mark}
 use Rattle.row_versions.specs.declared.tables.Place.{Place}
-use Rattle.row_versions.specs.Versions.{is_settled}
-use Rattle.row_versions.specs.Stored.{Stored, slots_of, versions_in, rows_in, live_of, pruned}
+use Rattle.row_versions.specs.Versions.{is_settled, kept}
+use Rattle.row_versions.specs.Stored.{Stored, slots_at, slots_of, versions_in, rows_in, live_of, pruned}
 use Rattle.row_versions.specs.Sound.{IsHistory, IsLog, IsSound}
-use Rattle.row_versions.specs.State.{State, KeepsRows, KeepsMarks, Stands, undone}
-use Rattle.row_versions.proofs.Pruned.{live_of-pruned, rows_pruned}
+use Rattle.row_versions.specs.State.{State, KeepsRows, KeepsMarks, KeepsTables, undone}
+use Rattle.row_versions.proofs.Pruned.{live_of-pruned, rows_pruned, position_of-pruned, slots_at-pruned}
+use Rattle.row_versions.proofs.TableLemmas.{tables_kept}
+use Rattle.std.proofs.lemmas.List.{length-map}
 
 pub sound_pruned : (tables after : List Stored) (newest live : ℕ) (pins : List ℕ) (log : List Change) (stale less : List Place) → IsSound tables newest live pins log stale → log ≡ [] → after ≡ pruned (newest ∷ pins) tables
     → ((place : Place) → IsHistory newest (versions_in place after)) → ((place : Place) → (is_settled (versions_in place after) ≡ true) ⊎ Contains less place) → IsSound after newest live pins log less
@@ -35,3 +35,9 @@ pruned_marks state none = λ mark stands.
           ∙ rows_pruned snaps state.tables table state.newest (0, omega arith, refl)
           ∙ sym (ap (λ n. rows_in 0 (slots_of table (undone n state.tables state.log)) state.newest) zero_is);
     }
+
+pub pruned_kept : (state : State) → KeepsTables 0 state (record state { tables = pruned (state.newest ∷ state.pins) state.tables })
+pruned_kept state =
+    let snaps = state.newest ∷ state.pins in
+    tables_kept 0 state (record state { tables = pruned snaps state.tables }) (λ id. position_of-pruned snaps state.tables id)
+    (λ t. omega (arith, ap length (slots_at-pruned snaps state.tables t), length-map (slots_at t state.tables) (kept snaps)))

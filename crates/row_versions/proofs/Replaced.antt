@@ -1,5 +1,5 @@
-use Rattle.std.proofs.Common.{◌≡◌, ℕ, ◌+◌, ◌<◌, ◌≤◌, Bool, true, false, cond, not, eqb, Option, Some, None, List, [], ◌∷◌, length, get_or, suc, zero, refl, sym, ap, ◌∙◌, arith}
-use Rattle.std.specs.Prelude.{is_some, map, filter}
+use Rattle.std.proofs.Common.{◌≡◌, ℕ, ◌+◌, ◌<◌, true, cond, not, Option, Some, None, List, [], ◌∷◌, get_or, suc, zero, refl, sym, ap, ◌∙◌, arith}
+use Rattle.std.specs.Prelude.{is_some}
 use Rattle.std.proofs.lemmas.Bool.{ne_eqb, eq-eqb}
 use Rattle.q_value.specs.declared.value.Value.{Value}
 use Rattle.row_versions.specs.declared.slot.Version.{Version}

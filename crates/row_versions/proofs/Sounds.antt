@@ -1,4 +1,4 @@
-use Rattle.std.proofs.Common.{◌≡◌, ℕ, ◌+◌, ◌-◌, ◌<◌, ◌≤◌, Bool, true, false, Option, Some, None, List, [], ◌∷◌, ◌++◌, cond, length, get_or, suc, zero, refl, sym, ap, ◌∙◌, subst, inl, inr, arith}
+use Rattle.std.proofs.Common.{◌≡◌, ℕ, ◌+◌, ◌<◌, ◌≤◌, true, List, [], ◌∷◌, ◌++◌, length, get_or, refl, sym, ap, ◌∙◌, subst, inl, inr, arith}
 use Rattle.std.specs.Prelude.{All, Contains, ◌⊎◌}
 use Rattle.q_base.specs.declared.ids.ObjId.{ObjId}
 use Rattle.q_value.specs.declared.value.Value.{Value}
@@ -8,8 +8,8 @@ use Rattle.row_versions.specs.declared.slot.Deed.TheVariants.{Inserted, Supersed
 use Rattle.row_versions.specs.declared.slot.Version.{Version}
 use Rattle.row_versions.specs.declared.tables.Place.{Place}
 use Rattle.row_versions.specs.Versions.{with_version, superseded, ended, taken_back, is_settled}
-use Rattle.row_versions.specs.Stored.{Stored, changed, in_slot, in_place, with_slot, with_table, slots_at, versions_in, is_live, live_of}
-use Rattle.row_versions.specs.Sound.{IsHistory, IsLast, IsLog, IsSound, was_live, lives_on}
+use Rattle.row_versions.specs.Stored.{Stored, in_place, with_slot, slots_at, versions_in, is_live, live_of}
+use Rattle.row_versions.specs.Sound.{IsHistory, IsLast, IsSound, was_live, lives_on}
 use Rattle.row_versions.specs.State.{before}
 use Rattle.row_versions.proofs.Places.{in_place_keeps, with_slot_keeps, in_place-with_slot, in_place_same, in_place_twice, versions_in-in_place, versions_in-with_slot, slots_at_joined}
 use Rattle.row_versions.proofs.Live.{one_if, live_of-in_place, live_of-with_slot, live_of-joined, live_of-padded, live_given, given_slot}

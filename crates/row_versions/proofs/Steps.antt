@@ -1,21 +1,20 @@
-use Rattle.std.proofs.Common.{◌≡◌, ℕ, ◌+◌, ◌-◌, ◌<◌, ◌≤◌, Bool, true, false, Option, Some, None, List, [], ◌∷◌, ◌++◌, cond, eqb, length, get_or, take, drop, suc, zero, refl, sym, ap, ◌∙◌, subst, arith}
-use Rattle.std.specs.Prelude.{All, Contains, is_some}
+use Rattle.std.proofs.Common.{◌≡◌, ℕ, ◌+◌, ◌-◌, Bool, true, false, Option, Some, None, List, [], ◌∷◌, ◌++◌, cond, eqb, length, get_or, refl, sym, ap, ◌∙◌, subst, arith}
+use Rattle.std.specs.Prelude.{is_some}
 use Rattle.std.specs.Option.{option_map_or}
 use Rattle.std.proofs.lemmas.Bool.{eqb-true}
 use Rattle.q_base.specs.declared.ids.ObjId.{ObjId}
 use Rattle.row_versions.specs.declared.heaps.Change.{Change}
-use Rattle.row_versions.specs.declared.slot.Version.{Version}
-use Rattle.row_versions.specs.Marks.{Mark}
 use Rattle.row_versions.specs.declared.tables.Place.{Place}
 use Rattle.row_versions.specs.Stored.{Stored, with_table, slots_at, slots_of, versions_in, rows_in, position_of}
 use Rattle.row_versions.specs.Sound.{IsHistory, IsSound}
-use Rattle.row_versions.specs.State.{State, rows, rows_at, KeepsRows, KeepsMark, KeepsMarks, Stands, before, undone, at_mark}
+use Rattle.row_versions.specs.State.{State, KeepsRows, KeepsMarks, KeepsTables, undone}
 use Rattle.row_versions.proofs.Histories.{shown_in_newest, IsHistory-later}
 use Rattle.row_versions.proofs.Positions.{position_of-new, position_of-other, slots_at_past, position_none}
 use Rattle.row_versions.proofs.Places.{slots_at_joined}
 use Rattle.row_versions.proofs.Rows.{rows_in-alike, same_rows}
 use Rattle.row_versions.proofs.Logs.{undone_joined, undone_position, undone_dated}
 use Rattle.row_versions.proofs.Sounds.{sound_joined}
+use Rattle.row_versions.proofs.TableLemmas.{position_of-longer, tables_kept}
 
 -- the next moment shows what the newest did
 later_rows : (tables : List Stored) (newest : ℕ) → ((t s : ℕ) → IsHistory newest (get_or (slots_at t tables) s [])) → (t : ℕ) → rows_in 0 (slots_at t tables) (newest + 1) ≡ rows_in 0 (slots_at t tables) newest
@@ -82,6 +81,15 @@ table_marks id state = λ mark stands.
           ap (λ ts. rows_in 0 (slots_of other ts) state.newest) (undone_joined n state.tables id state.log)
           ∙ ap (λ slots. rows_in 0 slots state.newest) (slots_of_joined (undone n state.tables state.log) id other (undone_position n state.tables state.log id.0 ∙ absent)));
     }
+
+pub table_kept : (id : ObjId) (state : State) → KeepsTables 0 state (record state { tables = with_table id state.tables })
+table_kept id state =
+    table_cases (λ ts. KeepsTables 0 state (record state { tables = ts })) id state.tables
+    (tables_kept 0 state state (λ place. refl) (λ t. omega arith))
+    (λ absent. record {
+      added = λ table there. position_of-longer state.tables (record { id = id; slots = [] } ∷ []) table.0 there;
+      slots = λ table. omega (arith, ap length (slots_of_joined state.tables id table absent));
+    })
 
 is_some_new : (tables : List Stored) (id : ObjId) → position_of id.0 tables ≡ None → is_some (position_of id.0 (tables ++ record { id = id; slots = [] } ∷ [])) ≡ true
 is_some_new tables id absent = ap is_some (position_of-new tables (record { id = id; slots = [] }) absent)

@@ -1,25 +1,22 @@
-use Rattle.std.proofs.Common.{◌≡◌, ℕ, ◌+◌, ◌-◌, ◌<◌, ◌≤◌, List, [], ◌∷◌, ◌++◌, length, get_or, take, drop, reverse, suc, zero, refl, sym, ap, ◌∙◌, subst, inl, inr, arith}
-use Rattle.std.specs.Prelude.{All, Contains, Option, Some, None, ◌⊎◌}
+use Rattle.std.proofs.Common.{◌≡◌, ℕ, ◌+◌, ◌-◌, ◌<◌, ◌≤◌, List, [], ◌∷◌, ◌++◌, length, take, drop, reverse, suc, zero, refl, sym, ap, ◌∙◌, subst, arith}
+use Rattle.std.specs.Prelude.{All, Option, Some, None}
 use Rattle.std.specs.Option.{option_map_or}
-use Rattle.std.proofs.lemmas.Bool.{cases_eq}
 use Rattle.std.proofs.lemmas.List.{reverse-append, drop-drop, get_or-drop, length-drop, drop-take}
 use Rattle.q_base.specs.declared.ids.ObjId.{ObjId}
 use Rattle.row_versions.specs.declared.heaps.Change.{Change}
 use Rattle.row_versions.specs.declared.slot.Deed.{Deed}
 use Rattle.row_versions.specs.declared.slot.Deed.TheVariants.{Inserted}
-use Rattle.row_versions.specs.declared.slot.Version.{Version}
 use Rattle.row_versions.specs.Marks.{Mark}
 use Rattle.row_versions.specs.declared.tables.Place.{Place}
 use Rattle.row_versions.specs.Versions.{taken_back}
-use Rattle.row_versions.specs.Stored.{Stored, in_place, slots_at, slots_of, versions_in, rows_in, position_of}
+use Rattle.row_versions.specs.Stored.{Stored, slots_at, slots_of, rows_in, position_of}
 use Rattle.row_versions.specs.Sound.{IsLog, IsSound, was_live, lives_on}
-use Rattle.row_versions.proofs.Places.{slots_at-in_place, slots_at-in_place_other}
-use Rattle.row_versions.proofs.Changed.{length-changed}
 use Rattle.row_versions.proofs.Rows.{same_rows}
 use Rattle.row_versions.proofs.Logs.{undone_sum, undone_position, undone_rows}
 use Rattle.row_versions.proofs.Live.{one_if}
 use Rattle.row_versions.proofs.Sounds.{sound_back, live_before}
-use Rattle.row_versions.specs.State.{State, KeepsRows, KeepsPinned, KeepsMark, Stands, before, undone, at_mark, back, last_undone, state_before, since}
+use Rattle.row_versions.proofs.TableLemmas.{in_place_length, tables_kept}
+use Rattle.row_versions.specs.State.{State, KeepsRows, KeepsPinned, KeepsMark, KeepsTables, Stands, before, undone, at_mark, back, last_undone, state_before}
 
 -- the last change of the log, its first in the model
 pub reverse-last : (log rest : List Change) (change : Change) → log ≡ rest ++ change ∷ [] → reverse log ≡ change ∷ reverse rest
@@ -40,14 +37,6 @@ back_more count state =
     ∙ ap (λ (t : List Stored). record state { tables = t; log = drop 1 (drop count state.log) }) (sym (undone_sum count 1 state.tables state.log))
     ∙ ap (λ (log : List Change). record state { tables = undone (count + 1) state.tables state.log; log = log }) (drop-drop 1 count state.log)
 
-in_place_length : (f : List Version → List Version) (tables : List Stored) (place : Place) (t : ℕ) → length (slots_at t (in_place place f tables)) ≡ length (slots_at t tables)
-in_place_length f tables place t = go (cases_eq t place.table)
-  where
-    go : (t ≡ place.table) ⊎ (t ≡ place.table → ⊥) → length (slots_at t (in_place place f tables)) ≡ length (slots_at t tables)
-    go (inl e) =
-        subst (λ n. length (slots_at n (in_place place f tables)) ≡ length (slots_at n tables)) (sym e) (ap length (slots_at-in_place f tables place.table place.slot) ∙ length-changed f (slots_at place.table tables) place.slot)
-    go (inr ne) = ap length (slots_at-in_place_other f tables place t ne)
-
 undone_length : (k : ℕ) (tables : List Stored) (log : List Change) (t : ℕ) → length (slots_at t (undone k tables log)) ≡ length (slots_at t tables)
 undone_length zero tables log t = refl
 undone_length (suc k) tables [] t = refl
@@ -61,6 +50,11 @@ back_slots count state table =
     go : (o : Option ℕ) → length (option_map_or (λ t. slots_at t (undone count state.tables state.log)) o []) ≡ length (option_map_or (λ t. slots_at t state.tables) o [])
     go None = refl
     go (Some t) = undone_length count state.tables state.log t
+
+pub back_tables : (count : ℕ) (state : State) → KeepsTables 0 state (back count state)
+back_tables count state =
+    tables_kept 0 state (back count state) (λ id. undone_position count state.tables state.log id)
+    (λ t. omega (arith, undone_length count state.tables state.log t))
 
 pub back_older : (state : State) (mark : Mark) (snap : ℕ) → IsLog state.newest state.tables state.log → Stands state mark → snap < mark.moment → KeepsRows state (at_mark state mark) snap
 back_older state mark snap logged stands lt = λ table.

@@ -1,11 +1,11 @@
-use Rattle.std.specs.Prelude.{ℕ, ◌+◌, ◌-◌, ◌*◌, ◌<◌, ◌≤◌, ◌≡◌, ◌⊎◌, Bool, true, false, Option, None, Some, List, [], ◌∷◌, All, Contains, IfSome, IsSomeAnd}
+use Rattle.std.specs.Prelude.{ℕ, ◌<◌, ◌≤◌, ◌≡◌, ◌⊎◌, Bool, true, false, List, [], ◌∷◌, All, Contains, IfSome, IsSomeAnd}
 use Rattle.row_versions.specs.declared.heaps.Change.{Change}
 use Rattle.row_versions.specs.declared.slot.Deed.{Deed}
 use Rattle.row_versions.specs.declared.slot.Deed.TheVariants.{Inserted, Superseded, Ended}
 use Rattle.row_versions.specs.declared.slot.Version.{Version}
 use Rattle.row_versions.specs.declared.tables.Place.{Place}
 use Rattle.row_versions.specs.Versions.{shown_in, taken_back, is_settled}
-use Rattle.row_versions.specs.Stored.{Stored, in_place, versions_in, is_live, live_of}
+use Rattle.row_versions.specs.Stored.{Stored, versions_in, is_live, live_of}
 use Rattle.row_versions.specs.State.{before}
 
 -- a version that was made and has ended

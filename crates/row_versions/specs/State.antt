@@ -1,4 +1,4 @@
-use Rattle.std.specs.Prelude.{ℕ, ◌+◌, ◌-◌, ◌<◌, ◌≤◌, ◌≡◌, ◌==◌, Bool, not, if◌then◌else◌, Option, None, Some, List, [], ◌∷◌, ◌++◌, length, take, drop, map, filter, sum_by, suc, zero, All, Contains, slice_index_or, slice_get, reverse, IsSome}
+use Rattle.std.specs.Prelude.{ℕ, ◌+◌, ◌-◌, ◌<◌, ◌≤◌, ◌≡◌, ◌==◌, not, if◌then◌else◌, Option, None, Some, List, [], ◌∷◌, ◌++◌, length, take, drop, map, filter, sum_by, suc, zero, All, Contains, slice_index_or, slice_get, reverse, IsSome}
 use Rattle.std.specs.Option.{option_map}
 use Rattle.q_base.specs.declared.ids.ObjId.{ObjId}
 use Rattle.q_value.specs.declared.value.Value.{Value}
@@ -100,6 +100,11 @@ KeepsMarks old new = (mark : Mark) → Stands old mark → KeepsMark old new mar
 abbrev pub IsAdded : State → ObjId → Type 0
 IsAdded state table = IsSome (position_of table.0 state.tables)
 
+-- each table that was added is there, with no more than so many slots more
+pub record KeepsTables (more : ℕ) (old new : State) : Type 0 where
+  pub added : (table : ObjId) → IsAdded old table → IsAdded new table
+  pub slots : (table : ObjId) → length (slots_of table new.tables) ≤ length (slots_of table old.tables) + more
+
 -- how many rows the tables show at the newest snapshot
 abbrev pub live_rows : State → ℕ
 live_rows state = sum_by (λ (table : Stored). length (rows_in 0 table.slots state.newest)) state.tables
@@ -127,6 +132,7 @@ pub record Inserts (table : ObjId) (slot : ℕ) (row : List Value) (old new : St
   pub place : Place
   pub slot_is : place.slot ≡ slot
   pub next : slot ≡ length (slots_of table old.tables)
+  pub tables : KeepsTables 1 old new
   pub changes : Changes (record { place = place; deed = Inserted; moment = old.newest }) table (with_slot place.table (with_version row old.newest []) old.tables) old new
   pub shows : rows new table new.newest ≡ rows old table old.newest ++ (slot, row) ∷ []
 
@@ -134,6 +140,7 @@ pub record Inserts (table : ObjId) (slot : ℕ) (row : List Value) (old new : St
 pub record Supersedes (table : ObjId) (slot : ℕ) (row : List Value) (old new : State) : Type 0 where
   pub place : Place
   pub slot_is : place.slot ≡ slot
+  pub tables : KeepsTables 0 old new
   pub changes : Changes (record { place = place; deed = Superseded; moment = old.newest }) table (in_place place (superseded row old.newest) old.tables) old new
   pub shows : rows new table new.newest ≡ replaced slot row (rows old table old.newest)
 
@@ -141,6 +148,7 @@ pub record Supersedes (table : ObjId) (slot : ℕ) (row : List Value) (old new :
 pub record Ends (table : ObjId) (slot : ℕ) (old new : State) : Type 0 where
   pub place : Place
   pub slot_is : place.slot ≡ slot
+  pub tables : KeepsTables 0 old new
   pub changes : Changes (record { place = place; deed = Ended; moment = old.newest }) table (in_place place (ended old.newest) old.tables) old new
   pub shows : rows new table new.newest ≡ without slot (rows old table old.newest)
 

@@ -1,4 +1,4 @@
-use Rattle.std.specs.Prelude.{ℕ, Bool, true, false, nat_lt, nat_le, ◌&&◌, ◌||◌, if◌then◌else◌, Option, None, Some, List, [], ◌∷◌, ◌++◌, drop, filter, is_none}
+use Rattle.std.specs.Prelude.{ℕ, Bool, true, false, nat_lt, nat_le, ◌&&◌, if◌then◌else◌, Option, None, Some, List, [], ◌∷◌, drop, filter, is_none}
 use Rattle.std.specs.List.{list_any}
 use Rattle.q_value.specs.declared.value.Value.{Value}
 use Rattle.row_versions.specs.declared.slot.Version.{Version}

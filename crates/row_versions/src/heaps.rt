@@ -56,7 +56,7 @@ impl Model for Heaps {
 }
 
 impl Heaps {
-    ghost use Rattle.row_versions.specs.State.{shown, rows, rows_from, live_rows, IsAdded, KeepsRows, KeepsPinned, KeepsMark, KeepsMarks, Stands, at_mark, rows_at, Inserts, Supersedes, Ends, unpinned, kept_version, back, last_undone, IsLastRow, IsNextRow};
+    ghost use Rattle.row_versions.specs.State.{shown, rows, rows_from, live_rows, IsAdded, KeepsRows, KeepsPinned, KeepsMark, KeepsMarks, KeepsTables, Stands, at_mark, rows_at, Inserts, Supersedes, Ends, unpinned, kept_version, back, last_undone, IsLastRow, IsNextRow};
 
     /// No tables.
     pub fn new(alloc: Global) -> Result<Heaps, NoMemory>
@@ -77,6 +77,7 @@ impl Heaps {
     pub fn add_table(&mut self, table: ObjId) -> Result<(), NoMemory>
         ensures state { OnOk result (self.new ≡ record self.old { tables = with_table table self.old.tables }) }
         ensures added { OnOk result (IsAdded self.new table) }
+        ensures tables { OnOk result (KeepsTables 0 self.old self.new) }
         ensures rows { OnOk result ((snap : ℕ) → KeepsRows self.old self.new snap) }
         ensures marks { OnOk result (KeepsMarks self.old self.new) }
     {
@@ -246,6 +247,7 @@ impl Heaps {
         ensures state { self.new ≡ at_mark self.old mark }
         ensures newest { (table : Id) → rows self.new table self.new.newest ≡ rows_at self.old mark table }
         ensures slots { (table : Id) → length (slots_of table self.new.tables) ≡ length (slots_of table self.old.tables) }
+        ensures tables { KeepsTables 0 self.old self.new }
         ensures older { (snap : ℕ) → snap < mark.moment → KeepsRows self.old self.new snap }
         ensures pinned { KeepsPinned self.old self.new }
         ensures marks { (earlier : HeapMark) → earlier.changes ≤ mark.changes → Stands self.old earlier → KeepsMark self.old self.new earlier }
@@ -288,6 +290,7 @@ impl Heaps {
         requires { self.old.log ≡ [] }
         ensures state { self.new ≡ record self.old { tables = pruned (self.old.newest ∷ self.old.pins) self.old.tables } }
         ensures shows { (snap : ℕ) → Contains (self.old.newest ∷ self.old.pins) snap → KeepsRows self.old self.new snap }
+        ensures tables { KeepsTables 0 self.old self.new }
         ensures marks { KeepsMarks self.old self.new }
     {
         prune_stale(

@@ -1,10 +1,9 @@
-use Rattle.std.proofs.Common.{◌≡◌, ◌≤◌, ◌∷◌, ℕ, true, length, take}
+use Rattle.std.proofs.Common.{◌≡◌, ◌≤◌, ◌∷◌, true, length, take}
 use Rattle.std.specs.Prelude.{Contains, ◌⊎◌}
 use Rattle.row_versions.specs.declared.tables.Place.{Place}
 use Rattle.row_versions.specs.Versions.{kept, is_settled}
 use Rattle.row_versions.specs.Stored.{versions_in, pruned}
 use Rattle.row_versions.specs.Sound.{IsHistory}
-use Rattle.row_versions.proofs.Pruned.{shown_in-kept}
 use Rattle.row_versions.proofs.heaps.prune_stale.Given as goal
 
 abbrev pub invariant-loop-left : goal.invariant-loop-left

@@ -1,5 +1,5 @@
 use Rattle.std.proofs.Common.{reverse}
-use Rattle.row_versions.proofs.Steps.{sound_table, table_rows, table_marks, table_added}
+use Rattle.row_versions.proofs.Steps.{sound_table, table_rows, table_marks, table_added, table_kept}
 use Rattle.row_versions.specs.State.{State}
 use Rattle.row_versions.proofs.heaps.Heaps.add_table.Goals as goal
 
@@ -19,3 +19,8 @@ pub returns-clause-marks : goal.returns-clause-marks
 returns-clause-marks c =
     let state : State = record { tables = c.self.inside.tables; newest = c.self.inside.moment; pins = c.self.inside.pins.items; log = reverse c.self.inside.log.items } in
     rw (c.in_ok-add.ensures.ok, ← c.self.view_is) (table_marks c.args.table state)
+
+pub returns-clause-tables : goal.returns-clause-tables
+returns-clause-tables c =
+    let state : State = record { tables = c.self.inside.tables; newest = c.self.inside.moment; pins = c.self.inside.pins.items; log = reverse c.self.inside.log.items } in
+    rw (c.in_ok-add.ensures.ok, ← c.self.view_is) (table_kept c.args.table state)

@@ -1,9 +1,8 @@
-use Rattle.std.proofs.Common.{◌≡◌, ◌+◌, ◌∷◌, [], ◌++◌, List, length, reverse, refl, sym, ap, ◌∙◌, subst, arith}
+use Rattle.std.proofs.Common.{◌≡◌, ◌∷◌, [], ◌++◌, List, reverse, refl, sym, ap, ◌∙◌, subst, arith}
 use Rattle.row_versions.specs.declared.heaps.Change.{Change}
 use Rattle.row_versions.specs.declared.slot.Deed.TheVariants.{Inserted}
 use Rattle.row_versions.specs.declared.tables.Place.{Place}
-use Rattle.row_versions.specs.Versions.{with_version}
-use Rattle.row_versions.specs.Stored.{with_slot, slots_at, live_of}
+use Rattle.row_versions.specs.Stored.{with_slot}
 use Rattle.row_versions.specs.State.{State, live_rows, Inserts}
 use Rattle.row_versions.proofs.LiveRows.{live_rows_is}
 use Rattle.row_versions.proofs.Noted.{sound_told_inserted, inserts_told}

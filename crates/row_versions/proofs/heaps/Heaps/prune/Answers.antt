@@ -1,9 +1,8 @@
 use Rattle.std.proofs.Common.{◌≡◌, ◌∷◌, [], List, ℕ, reverse, sym, ap, ◌∙◌, subst}
 use Rattle.std.specs.Prelude.{Contains}
-use Rattle.row_versions.specs.declared.heaps.Change.{Change}
 use Rattle.row_versions.specs.Stored.{Stored, pruned}
-use Rattle.row_versions.specs.State.{State, KeepsRows, KeepsMarks}
-use Rattle.row_versions.proofs.PrunedState.{sound_pruned, pruned_shows, pruned_marks}
+use Rattle.row_versions.specs.State.{State, KeepsRows, KeepsMarks, KeepsTables}
+use Rattle.row_versions.proofs.PrunedState.{sound_pruned, pruned_shows, pruned_marks, pruned_kept}
 use Rattle.row_versions.proofs.heaps.Heaps.prune.Goals as goal
 
 pub invariant_of-self : goal.invariant_of-self
@@ -31,3 +30,12 @@ returns-clause-marks c =
     let is : c.prune_stale.new.tables ≡ pruned (i.moment ∷ i.pins.items) i.tables = c.prune_stale.ensures.pruned ∙ ap (λ (pins : List ℕ). pruned (i.moment ∷ pins) i.tables) c.as_slice.ensures.value in
     subst (λ (old : State). KeepsMarks old new) c.self.view_is
     (subst (λ (ts : List Stored). KeepsMarks state (record state { tables = ts })) (sym is) (pruned_marks state none))
+
+pub returns-clause-tables : goal.returns-clause-tables
+returns-clause-tables c =
+    let i = c.self.inside in
+    let state : State = record { tables = i.tables; newest = i.moment; pins = i.pins.items; log = reverse i.log.items } in
+    let new : State = record state { tables = c.prune_stale.new.tables } in
+    let is : c.prune_stale.new.tables ≡ pruned (i.moment ∷ i.pins.items) i.tables = c.prune_stale.ensures.pruned ∙ ap (λ (pins : List ℕ). pruned (i.moment ∷ pins) i.tables) c.as_slice.ensures.value in
+    subst (λ (old : State). KeepsTables 0 old new) c.self.view_is
+    (subst (λ (ts : List Stored). KeepsTables 0 state (record state { tables = ts })) (sym is) (pruned_kept state))

@@ -1,4 +1,4 @@
-use Rattle.std.proofs.Common.{◌≡◌, ◌+◌, ◌-◌, ◌∷◌, [], ◌++◌, List, cond, reverse, sym, ap, ◌∙◌, subst, arith}
+use Rattle.std.proofs.Common.{◌∷◌, [], ◌++◌, List, cond, reverse, sym, ap, ◌∙◌, subst}
 use Rattle.std.specs.Prelude.{IsSome}
 use Rattle.row_versions.specs.declared.heaps.Change.{Change}
 use Rattle.row_versions.specs.declared.slot.Deed.TheVariants.{Superseded}
@@ -6,7 +6,6 @@ use Rattle.row_versions.specs.declared.tables.Place.{Place}
 use Rattle.row_versions.specs.Versions.{superseded}
 use Rattle.row_versions.specs.Stored.{in_place}
 use Rattle.row_versions.specs.State.{State, shown, Supersedes}
-use Rattle.row_versions.proofs.Sounds.{live_counted}
 use Rattle.row_versions.proofs.Noted.{Told, live_there, sound_told_superseded, supersedes_told}
 use Rattle.row_versions.proofs.heaps.Heaps.supersede.Goals as goal
 

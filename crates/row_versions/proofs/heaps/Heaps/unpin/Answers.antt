@@ -1,6 +1,6 @@
 use Rattle.std.proofs.Common.{◌≡◌, ℕ, List, eqb, reverse, sym, ap, ◌∙◌}
 use Rattle.std.specs.Prelude.{position}
-use Rattle.row_versions.specs.State.{State, unpinned}
+use Rattle.row_versions.specs.State.{unpinned}
 use Rattle.row_versions.proofs.Pins.{removed_pin, removed_none}
 use Rattle.row_versions.proofs.heaps.Heaps.unpin.Goals as goal
 

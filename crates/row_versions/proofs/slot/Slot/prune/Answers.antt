@@ -1,7 +1,7 @@
-use Rattle.std.proofs.Common.{◌≡◌, Bool, true, false, not, cond, Option, Some, None, List, [], ◌∷◌, refl, sym, ap, ◌∙◌}
+use Rattle.std.proofs.Common.{◌≡◌, Bool, true, false, not, cond, Option, Some, None, [], ◌∷◌, refl, sym, ap, ◌∙◌}
 use Rattle.std.specs.List.{filter}
 use Rattle.std.specs.Option.{option_to_list}
-use Rattle.row_versions.specs.Versions.{is_needed, kept}
+use Rattle.row_versions.specs.Versions.{is_needed}
 use Rattle.row_versions.proofs.Kept.{filter-stays, filter-goes}
 use Rattle.row_versions.proofs.slot.Slot.prune.Goals as goal
 use Rattle.row_versions.proofs.slot.Slot.prune.Goals.{in-None, in-Some, in-None-1, in-Some-1}

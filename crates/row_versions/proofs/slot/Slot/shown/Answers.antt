@@ -1,4 +1,4 @@
-use Rattle.std.proofs.Common.{arith, sym, ◌∙◌}
+use Rattle.std.proofs.Common.{arith}
 use Rattle.row_versions.proofs.Shown.{shown_in-back}
 use Rattle.row_versions.proofs.slot.Slot.shown.Goals as goal
 

@@ -1,4 +1,4 @@
-use Rattle.std.proofs.Common.{◌≡◌, [], sym, ap, ◌∙◌}
+use Rattle.std.proofs.Common.{[], sym, ap, ◌∙◌}
 use Rattle.std.specs.Option.{option_map_or}
 use Rattle.row_versions.specs.Stored.{Stored, slots_at}
 use Rattle.row_versions.proofs.Positions.{slots_at_get}

@@ -1,4 +1,4 @@
-use Rattle.std.proofs.Common.{◌≡◌, [], get_or, sym, ap, ◌∙◌}
+use Rattle.std.proofs.Common.{[], get_or, sym, ap, ◌∙◌}
 use Rattle.std.specs.Prelude.{unwrap_or}
 use Rattle.std.proofs.lemmas.Option.{unwrap_or-slice_get}
 use Rattle.row_versions.proofs.tables.Tables.slot_of.Goals as goal
