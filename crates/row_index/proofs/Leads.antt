@@ -1,5 +1,5 @@
 -- Of two keys the one of the lesser lead comes first.
-use Rattle.std.proofs.Common.{◌≡◌, suc, ◌-◌, ℤ, pos, negsuc, None, Some, Ordering, Less, Equal, Greater, List, [], ◌∷◌, length, refl, sym, ap, ◌∙◌, subst, arith}
+use Rattle.std.proofs.Common.{◌≡◌, suc, ◌-◌, ℤ, pos, negsuc, Some, Ordering, Less, Equal, Greater, List, [], ◌∷◌, length, refl, sym, ap, ◌∙◌, subst, arith}
 use lib.Signed.{◌<ℤ◌, ◌≤ℤ◌}
 use mir.Syntax.{w64}
 use mir.Val.{SFits}
@@ -61,18 +61,10 @@ led o x y a b is_a is_b fits fits2 r e apart =
         let back : int_cmp (key_lead y.key) (key_lead x.key) ≡ Less = int_cmp_total.antisymm (key_lead y.key) (key_lead x.key) ∙ ap ordering_reverse (sym e) in
         sym (o.antisymm x y ∙ ap ordering_reverse (entries_led y x back (subst (SFits w64) is_b fits2) (subst (SFits w64) is_a fits)))
 
--- the lead of the last entry, found at the end
+-- the last entry's lead, found at the end of the list
 pub last_is : (xs : List IndexPlace) (last : IndexPlace) → slice_get xs (length xs - 1) ≡ Some last → key_lead last.key ≡ lead_of_last xs
 last_is [] last e = absurd (cc)
 last_is (x ∷ []) last e = let same : x ≡ last = cc in ap (λ (entry : IndexPlace). key_lead entry.key) (sym same)
 last_is (x ∷ y ∷ ys) last e =
     let same : length (x ∷ y ∷ ys) - 1 ≡ suc (length (y ∷ ys) - 1) = omega arith in
     last_is (y ∷ ys) last (rw same at e)
-
-pub none_is : (xs : List IndexPlace) → slice_get xs (length xs - 1) ≡ None → least ≡ lead_of_last xs
-none_is [] e = refl
-none_is (x ∷ xs) e = absurd (some xs x e)
-  where
-    some : (xs : List IndexPlace) (x : IndexPlace) → slice_get (x ∷ xs) (length (x ∷ xs) - 1) ≡ None → ⊥
-    some [] x e = cc
-    some (y ∷ ys) x e = let same : length (x ∷ y ∷ ys) - 1 ≡ suc (length (y ∷ ys) - 1) = omega arith in some ys y (rw same at e)

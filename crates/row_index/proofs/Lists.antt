@@ -102,14 +102,6 @@ all_by_last p down (x ∷ y ∷ ys) up last e =
     at true f lt = rw (down x last lt f) refl
     at false f lt = grind arith
 
-pub all_of_none : (p : IndexPlace → Bool) (xs : List IndexPlace) → slice_get xs (length xs - 1) ≡ None → true ≡ list_all p xs
-all_of_none p [] e = refl
-all_of_none p (x ∷ xs) e = absurd (some xs x e)
-  where
-    some : (xs : List IndexPlace) (x : IndexPlace) → slice_get (x ∷ xs) (length (x ∷ xs) - 1) ≡ None → ⊥
-    some [] x e = cc
-    some (y ∷ ys) x e = let same : length (x ∷ y ∷ ys) - 1 ≡ suc (length (y ∷ ys) - 1) = omega arith in some ys y (rw same at e)
-
 -- the parts of an ascending list
 pub ascending_front : (xs ys : List IndexPlace) → IsAscending (xs ++ ys) → IsAscending xs
 ascending_front [] ys up = tt
