@@ -16,6 +16,7 @@ use std::marker::Model;
 /// Consecutive entries in their order, none twice: few enough that one can be put between them cheaply.
 #[derive(Drop)]
 pub(crate) struct Block {
+    /// The lead of the last entry, so that a search among blocks seldom goes into one.
     last_lead: i64,
     entries: Vec<Stored>,
 }
