@@ -1,9 +1,10 @@
 #!/usr/bin/env python3
 """Nanoseconds of an operation in containers of 10^4, 10^5 and 10^6 entries.
 
-Usage: bench/containers.py. Builds the program of crates/container_bench where it isn't built, and runs
-it over each container and each count, each time twice, of which the faster counts. Times have to stay
-near constant, or to grow with the logarithm of the count. Prints figures and fails nothing.
+Usage: bench/containers.py [CONTAINER..]. Builds the program of crates/container_bench where it isn't
+built, and runs it over each container, or those that are named, and each count, each time twice, of
+which the faster counts. Times have to stay near constant, or to grow with the logarithm of the count.
+Prints figures and fails nothing.
 """
 import os
 import subprocess
@@ -45,7 +46,7 @@ def main():
     if not os.access(PROGRAM, os.X_OK):
         build()
     print(f"{'ns an operation':32}" + "".join(f"{count:>12,}" for count in COUNTS))
-    for container in CONTAINERS:
+    for container in sys.argv[1:] or CONTAINERS:
         columns = [faster(container, count) for count in COUNTS]
         for operation in columns[0]:
             figures = "".join(f"{column[operation]:12.0f}" for column in columns)

@@ -1,5 +1,5 @@
 -- What lies before a cut, and what the entries from it on are to a range.
-use Rattle.std.proofs.Common.{◌≡◌, ◌≤◌, Bool, true, false, true≢false, not, ◌&&◌, ◌||◌, if◌then◌else◌, Option, None, Some, Ordering, Less, Equal, Greater, List, [], ◌∷◌, find, refl, sym, ap, ◌∙◌, arith}
+use Rattle.std.proofs.Common.{◌≡◌, ◌≤◌, Bool, true, false, true≢false, not, ◌&&◌, ◌||◌, if◌then◌else◌, Option, None, Some, Ordering, Less, Equal, Greater, List, [], ◌∷◌, find, refl, sym, ap, arith}
 use Rattle.std.specs.Option.{option_copied}
 use Rattle.std.specs.Ordering.{ordering_index, is_gt, is_lt, is_eq}
 use Rattle.std.specs.Cmp.{IsTotalOrder}
@@ -8,10 +8,10 @@ use Rattle.row_index.specs.declared.cut.Cut.{Cut}
 use Rattle.row_index.specs.declared.cut.Cut.TheVariants.{Entry, Rest}
 use Rattle.row_index.specs.declared.entries.IndexPlace.{IndexPlace}
 use Rattle.row_index.specs.declared.entries.KeyRange.{KeyRange}
-use Rattle.row_index.specs.Order.{value_cmp, entry_cmp, entry_of, is_past}
-use Rattle.row_index.specs.Ranges.{is_next, is_within, key_side}
+use Rattle.row_index.specs.Order.{value_cmp, entry_cmp, is_past}
+use Rattle.row_index.specs.Ranges.{is_next, key_side}
 use Rattle.row_index.specs.Cuts.{is_before}
-use Rattle.row_index.specs.Entries.{Each, IsAscending}
+use Rattle.row_index.specs.Entries.{IsAscending}
 use Rattle.row_index.proofs.Orders.{entries_total, less_is, then_first}
 use Rattle.row_index.proofs.Sides.{key_side_up, within_is_side}
 use Rattle.row_index.proofs.Lists.{each_map, find_none, IsDownward}
@@ -73,7 +73,7 @@ module _ (o : IsTotalOrder value_cmp) where
   side_up range x y lt = key_side_up o range x.key y.key (then_first _ _ (ap is_gt lt))
 
   pub before_down : (cut : Cut) → IsDownward (is_before cut)
-  before_down (Entry key slot) x y lt e = ap is_lt ((entries_total o).trans x y (entry_of key.now slot) lt (less_is _ e))
+  before_down (Entry sought) x y lt e = ap is_lt ((entries_total o).trans x y sought.now lt (less_is _ e))
   before_down (Rest range last) x y lt e =
       or_down (is_lt (key_side range.now x.key)) (is_lt (key_side range.now y.key)) (not (is_past (option_copied last) x)) (not (is_past (option_copied last) y))
       (less_down _ _ (side_up range.now x y lt)) (past_down (option_copied last) x y lt) e

@@ -1,10 +1,9 @@
 -- An entry put into an ascending list at its place, and taken out of it.
-use Rattle.std.proofs.Common.{◌≡◌, ℕ, zero, suc, ◌+◌, ◌<◌, ◌≤◌, Bool, true, false, true≢false, not, cond, Option, None, Some, Ordering, Less, Equal, Greater, List, [], ◌∷◌, ◌++◌, length, get_or, insert, remove, filter, refl, sym, ap, ◌∙◌, arith}
-use Rattle.std.specs.List.{AllWithin, slice_get}
+use Rattle.std.proofs.Common.{◌≡◌, ℕ, zero, suc, ◌≤◌, Bool, true, false, true≢false, not, cond, Ordering, Less, Equal, Greater, List, [], ◌∷◌, length, insert, remove, filter, refl, sym, ap, ◌∙◌, arith}
+use Rattle.std.specs.List.{slice_get}
 use Rattle.std.specs.List.Sorted.{IsPartitionPoint}
-use Rattle.std.specs.Ordering.{ordering_reverse, is_eq, is_gt, is_lt}
+use Rattle.std.specs.Ordering.{ordering_reverse, is_eq, is_lt}
 use Rattle.std.specs.Cmp.{IsTotalOrder}
-use Rattle.std.proofs.lemmas.Cmp.{tied_back}
 use Rattle.row_index.specs.declared.entries.IndexPlace.{IndexPlace}
 use Rattle.row_index.specs.Order.{value_cmp, entry_cmp}
 use Rattle.row_index.specs.Entries.{Each, IsAscending, by_order, is_at, with_entry, without_entry}

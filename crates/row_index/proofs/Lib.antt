@@ -1,6 +1,7 @@
 mod Blocks
 mod Cuts
 mod Edits
+mod Leads
 mod Lists
 mod Orders
 mod Sides

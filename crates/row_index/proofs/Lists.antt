@@ -1,14 +1,10 @@
 -- Searches, additions and removals in ascending lists of entries, and in such lists cut into blocks.
-use Rattle.std.proofs.Common.{◌≡◌, ℕ, zero, suc, ◌+◌, ◌-◌, ◌<◌, ◌≤◌, Bool, true, false, true≢false, not, ◌&&◌, ◌||◌, cond, Option, None, Some, Ordering, Less, Equal, Greater, List, [], ◌∷◌, ◌++◌, length, take, drop, get_or, set, insert, remove, filter, find, refl, sym, ap, ◌∙◌, subst, ◌⊎◌, inl, inr, ⊎_elim, arith}
-use Rattle.std.specs.List.{AllWithin, list_all, slice_get}
+use Rattle.std.proofs.Common.{◌≡◌, ℕ, zero, suc, ◌-◌, ◌<◌, ◌≤◌, Bool, true, false, true≢false, not, ◌&&◌, cond, None, Some, Less, List, [], ◌∷◌, ◌++◌, length, take, drop, get_or, filter, find, refl, sym, ap, subst, arith}
+use Rattle.std.specs.List.{list_all, slice_get}
 use Rattle.std.specs.List.Sorted.{IsPartitionedBy, IsPartitionPoint}
-use Rattle.std.specs.Option.{option_and_then}
-use Rattle.std.specs.Ordering.{ordering_reverse, is_eq, is_gt, is_lt}
-use Rattle.std.specs.Cmp.{IsTotalOrder}
 use Rattle.row_index.specs.declared.entries.IndexPlace.{IndexPlace}
-use Rattle.row_index.specs.Order.{value_cmp, entry_cmp}
-use Rattle.row_index.specs.Entries.{Each, IsAscending, IsFilled, by_order, is_at, joined, with_entry, without_entry}
-use Rattle.row_index.proofs.Orders.{entries_total, less_is}
+use Rattle.row_index.specs.Order.{entry_cmp}
+use Rattle.row_index.specs.Entries.{Each, IsAscending}
 
 pub both : (a b : Bool) → a && b ≡ true → (a ≡ true) × (b ≡ true)
 both true b e = (refl, e)
@@ -105,14 +101,6 @@ all_by_last p down (x ∷ y ∷ ys) up last e =
     at : (b : Bool) → p last ≡ b → entry_cmp x last ≡ Less → b ≡ p x && b
     at true f lt = rw (down x last lt f) refl
     at false f lt = grind arith
-
-pub all_of_none : (p : IndexPlace → Bool) (xs : List IndexPlace) → slice_get xs (length xs - 1) ≡ None → true ≡ list_all p xs
-all_of_none p [] e = refl
-all_of_none p (x ∷ xs) e = absurd (some xs x e)
-  where
-    some : (xs : List IndexPlace) (x : IndexPlace) → slice_get (x ∷ xs) (length (x ∷ xs) - 1) ≡ None → ⊥
-    some [] x e = cc
-    some (y ∷ ys) x e = let same : length (x ∷ y ∷ ys) - 1 ≡ suc (length (y ∷ ys) - 1) = omega arith in some ys y (rw same at e)
 
 -- the parts of an ascending list
 pub ascending_front : (xs ys : List IndexPlace) → IsAscending (xs ++ ys) → IsAscending xs

@@ -1,21 +1,15 @@
 -- The keys of a range stand side by side in the order of keys.
-use Rattle.std.proofs.Common.{◌≡◌, ℕ, ◌≤◌, Bool, true, false, true≢false, not, ◌&&◌, ◌||◌, if◌then◌else◌, Option, None, Some, Ordering, Less, Equal, Greater, List, [], ◌∷◌, length, take, refl, sym, ap, ◌∙◌, arith}
-use Rattle.std.specs.Ordering.{ordering_index, ordering_then, is_gt, is_lt, is_eq}
+use Rattle.std.proofs.Common.{◌≡◌, ◌≤◌, Bool, true, false, true≢false, not, ◌&&◌, ◌||◌, if◌then◌else◌, Option, None, Some, Ordering, Less, Equal, Greater, List, [], ◌∷◌, length, take, refl, sym, ap, ◌∙◌, arith}
+use Rattle.std.specs.Ordering.{ordering_index, ordering_then, is_gt, is_eq}
 use Rattle.std.specs.List.{slice_get}
-use Rattle.std.specs.Option.{option_copied}
 use Rattle.std.specs.Cmp.{IsTotalOrder}
-use Rattle.std.proofs.lemmas.Cmp.{upto}
 use Rattle.q_value.specs.declared.value.Value.{Value}
 use Rattle.q_value.specs.declared.value.Value.TheVariants as value
-use Rattle.row_index.specs.declared.cut.Cut.{Cut}
-use Rattle.row_index.specs.declared.cut.Cut.TheVariants.{Entry, Rest}
 use Rattle.row_index.specs.declared.entries.Edge.{Edge}
-use Rattle.row_index.specs.declared.entries.IndexPlace.{IndexPlace}
 use Rattle.row_index.specs.declared.entries.KeyRange.{KeyRange}
-use Rattle.row_index.specs.Order.{value_cmp, keys_cmp, entry_cmp, entry_of, is_past}
+use Rattle.row_index.specs.Order.{value_cmp, keys_cmp}
 use Rattle.row_index.specs.Ranges.{begins_with, is_from, is_up_to, is_above, is_below, is_null, has_edge, lies_within, is_within, value_side, edged_side, next_side, key_side}
-use Rattle.row_index.specs.Cuts.{is_before}
-use Rattle.row_index.proofs.Orders.{entries_total, less_is, then_up, then_assoc, then_first, rank_up, tied_both}
+use Rattle.row_index.proofs.Orders.{then_up, then_assoc, then_first, rank_up, tied_both}
 
 from_up : (included : Bool) (r s : Ordering) → ordering_index r ≤ ordering_index s → is_from included r ≡ true → is_from included s ≡ true
 from_up included Less s up e = absurd (true≢false (sym e))

@@ -1,6 +1,5 @@
 -- What the next entry of a range leaves of the range, and which entries a change leaves.
 use Rattle.std.proofs.Common.{◌≡◌, Bool, true, false, true≢false, not, ◌&&◌, ◌||◌, cond, Option, None, Some, Result, Ok, Err, OnOk, MatchOption, Ordering, Less, Equal, Greater, List, [], ◌∷◌, filter, find, refl, sym, ap, ◌∙◌, subst}
-use Rattle.std.specs.List.{list_any}
 use Rattle.std.specs.Ordering.{ordering_reverse, is_eq, is_gt}
 use Rattle.std.specs.Cmp.{IsTotalOrder}
 use Rattle.std.proofs.lemmas.Cmp.{tied_itself}

@@ -2,29 +2,31 @@ ghost use Rattle.std.specs.Prelude.{◌≡◌};
 ghost use Rattle.std.specs.Option.{option_copied};
 ghost use Rattle.row_index.specs.Ranges.{is_above, is_below, key_side, next_side, value_side};
 ghost use Rattle.row_index.specs.Cuts.{is_before};
+ghost use Rattle.row_index.specs.Leads.{key_lead};
 
-use crate::order::{comes_after, compare_entry, compare_keys, compare_values};
+use crate::order::{comes_after, compare_keys, compare_values};
+use crate::stored::Sought;
 use crate::{Edge, IndexPlace, Key, KeyRange};
-use q_base::SlotId;
 use q_value::Value;
 use std::cmp::Ordering;
 
 /// A place in the order of entries, with those before it and those after it.
 #[derive(Drop)]
 pub(crate) enum Cut<'a> {
-    /// Before the entry of a key and a slot.
-    Entry(&'a Key, SlotId),
+    /// Before an entry.
+    Entry(&'a Sought<'a>),
     /// Before the entries of a range, and of them before those past an entry.
     Rest(&'a KeyRange, Option<&'a IndexPlace>),
 }
 
 impl Cut<'_> {
-    /// Tells whether `entry` lies before the cut.
-    pub(crate) fn comes_after(&self, entry: &IndexPlace) -> bool
+    /// Tells whether `entry`, whose key has this lead, lies before the cut.
+    pub(crate) fn comes_after(&self, lead: i64, entry: &IndexPlace) -> bool
+        requires { lead ≡ key_lead entry.now.key }
         ensures { result ≡ is_before self.now entry.now }
     {
         match self {
-            Cut::Entry(key, slot) => compare_entry(entry, key, *slot).is_lt(),
+            Cut::Entry(sought) => sought.order_of(lead, entry).is_lt(),
             Cut::Rest(range, last) => {
                 key_side_of(range, &entry.key).is_lt() || !comes_after(entry, *last)
             }

@@ -11,6 +11,7 @@ ghost use Rattle.row_index.specs.Entries.{Each, IsAscending, IsFilled, has_entry
 
 use crate::block::Block;
 use crate::cut::{Cut, key_side_of};
+use crate::stored::{Sought, Stored};
 use crate::{IndexPlace, Key, KeyRange};
 use q_base::{NoMemory, SlotId};
 use q_value::laws;
@@ -18,12 +19,12 @@ use std::alloc::Global;
 use std::marker::Model;
 
 /// A block with more entries is divided.
-const MOST: usize = 512;
+const MOST: usize = 128;
 
 /// The entries of an index: each once, in the order of their keys and then of their slots.
 ///
 /// They stand in blocks of limited length, so that a search compares an entry with as many others as
-/// their number has binary digits, and a change moves few of them.
+/// their number has binary digits, mostly by leads alone, and a change moves few of them.
 #[derive(Drop)]
 pub struct Index {
     alloc: Global,
@@ -60,15 +61,15 @@ impl Index {
         ensures err { OnErr result (self.new ≡ self.old) }
     {
         laws::orders();
-        self.put(IndexPlace { key, slot })
+        self.put(Stored::new(IndexPlace { key, slot }))
     }
 
-    fn put(&mut self, entry: IndexPlace) -> Result<(), NoMemory>
+    fn put(&mut self, entry: Stored) -> Result<(), NoMemory>
         ensures ok { OnOk result (self.new ≡ with_entry entry self.old) }
         ensures err { OnErr result (self.new ≡ self.old) }
     {
         laws::orders();
-        let at = block_from(self.blocks.as_slice(), &Cut::Entry(&entry.key, entry.slot));
+        let at = block_from(self.blocks.as_slice(), &Cut::Entry(&entry.sought()));
         if at < self.blocks.len() {
             add_to(self.alloc, &mut self.blocks, at, entry)
         } else if at > 0 {
@@ -85,9 +86,10 @@ impl Index {
         ensures members { (other : IndexPlace) → has_entry self.new other ≡ (not (is_eq (entry_cmp (entry_of key.now slot) other)) && has_entry self.old other) }
     {
         laws::orders();
-        let at = block_from(self.blocks.as_slice(), &Cut::Entry(key, slot));
+        let sought = Sought::new(key, slot);
+        let at = block_from(self.blocks.as_slice(), &Cut::Entry(&sought));
         if at < self.blocks.len() {
-            remove_from(&mut self.blocks, at, key, slot);
+            remove_from(&mut self.blocks, at, &sought);
         }
     }
 
@@ -131,12 +133,7 @@ fn first_from<'a>(blocks: &'a [Block], cut: &Cut<'_>) -> Option<&'a IndexPlace>
     }
 }
 
-fn add_to(
-    alloc: Global,
-    blocks: &mut Vec<Block>,
-    at: usize,
-    entry: IndexPlace,
-) -> Result<(), NoMemory>
+fn add_to(alloc: Global, blocks: &mut Vec<Block>, at: usize, entry: Stored) -> Result<(), NoMemory>
     requires { at < length blocks.old.items }
     ensures ok { OnOk result (joined blocks.new.items ≡ joined (slice_set blocks.old.items at (with_entry entry (slice_index_or blocks.old.items at [])))) }
     ensures err { OnErr result (blocks.new.items ≡ blocks.old.items) }
@@ -167,12 +164,12 @@ fn divide(alloc: Global, blocks: &mut Vec<Block>, at: usize)
     }
 }
 
-fn remove_from(blocks: &mut Vec<Block>, at: usize, key: &Key, slot: SlotId)
+fn remove_from(blocks: &mut Vec<Block>, at: usize, sought: &Sought<'_>)
     requires { at < length blocks.old.items }
-    ensures joined { joined blocks.new.items ≡ joined (slice_set blocks.old.items at (without_entry (entry_of key.now slot) (slice_index_or blocks.old.items at []))) }
+    ensures joined { joined blocks.new.items ≡ joined (slice_set blocks.old.items at (without_entry sought.now (slice_index_or blocks.old.items at []))) }
     ensures filled { Each IsFilled blocks.old.items → Each IsFilled blocks.new.items }
 {
-    blocks[at].remove(key, slot);
+    blocks[at].remove(sought);
     if blocks[at].len() == 0 {
         let _ = blocks.remove(at);
     }

@@ -6,7 +6,9 @@ mod cut;
 mod entries;
 mod index;
 pub mod laws;
+mod lead;
 mod order;
+mod stored;
 #[cfg(test)]
 mod tests;
 

@@ -10,7 +10,7 @@ use Rattle.row_index.proofs.block.Block.place_of.Goals as goal
 pub returns-clause-parted : goal.returns-clause-parted
 returns-clause-parted c =
     let same = c.deref.ensures.value ∙ c.self.view_is in
-    let up = subst IsAscending (sym c.deref.ensures.value) c.self.invariant in
+    let up = subst IsAscending (sym c.deref.ensures.value) c.self.invariant.0 in
     let down = before_down (c.orders.ensures.sorts false false) c.args.cut.now in
     let parted = c.partition_point.ensures.partitioned (is_before c.args.cut.now) (always_returns_same _ _ _ (λ a r f called. (search rules, search rules))) (partitioned (is_before c.args.cut.now) down c.deref.result.now up) in
     subst (λ xs. IsPartitionPoint (λ entry. is_before c.args.cut.now entry ≡ true) (λ entry. is_before c.args.cut.now entry ≡ false) xs c.partition_point.result) same parted

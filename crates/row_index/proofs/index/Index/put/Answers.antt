@@ -1,4 +1,4 @@
-use Rattle.std.proofs.Common.{◌≡◌, ◌<◌, ◌≤◌, ◌+◌, ◌-◌, [], length, get_or, set, sym, ap, ◌∙◌, subst, inl, inr, arith, false}
+use Rattle.std.proofs.Common.{◌≡◌, ◌<◌, ◌-◌, [], length, get_or, set, sym, ap, ◌∙◌, subst, inl, inr, arith, false}
 use Rattle.std.proofs.lemmas.Grind.{common_steps}
 use Rattle.std.specs.Ordering.{is_lt}
 use Rattle.row_index.specs.Order.{entry_cmp}
@@ -11,7 +11,7 @@ use Rattle.row_index.proofs.index.Index.put.Goals as goal
 within : (c : goal.After-add_to) → with_entry c.args.entry (joined c.self.inside.blocks.items) ≡ joined (set c.self.inside.blocks.items c.block_from-at.result (with_entry c.args.entry (get_or c.self.inside.blocks.items c.block_from-at.result [])))
 within c =
     let lt : c.block_from-at.result < length c.self.inside.blocks.items = grind (arith, common_steps) in
-    let parted = subst (λ bs. BlocksPart (λ x. is_lt (entry_cmp x c.args.entry)) bs c.block_from-at.result) c.as_slice.ensures.value c.block_from-at.ensures.parted in
+    let parted = subst (λ bs. BlocksPart (λ x. is_lt (entry_cmp x c.args.entry)) bs c.block_from-at.result) c.as_slice.ensures.value (subst (λ sought. BlocksPart (λ x. is_lt (entry_cmp x sought)) c.as_slice.result.now c.block_from-at.result) c.sought.ensures c.block_from-at.ensures.parted) in
     with_entry_in_block c.args.entry c.self.inside.blocks.items c.block_from-at.result lt (λ i d below. parted.0 i d (omega arith) below) (inl (parted.1 c.block_from-at.result [] (omega arith) lt))
 
 pub returns-then-at-len-clause-ok : goal.returns-then-at-len-clause-ok
@@ -31,7 +31,7 @@ invariant_of-self c = (
 past : (c : goal.After-add_to-then-at-gt0) → with_entry c.args.entry (joined c.self.inside.blocks.items) ≡ joined (set c.self.inside.blocks.items (c.block_from-at.result - 1) (with_entry c.args.entry (get_or c.self.inside.blocks.items (c.block_from-at.result - 1) [])))
 past c =
     let whole : c.block_from-at.result ≡ length c.self.inside.blocks.items = grind (arith, common_steps) in
-    let parted = subst (λ bs. BlocksPart (λ x. is_lt (entry_cmp x c.args.entry)) bs c.block_from-at.result) c.as_slice.ensures.value c.block_from-at.ensures.parted in
+    let parted = subst (λ bs. BlocksPart (λ x. is_lt (entry_cmp x c.args.entry)) bs c.block_from-at.result) c.as_slice.ensures.value (subst (λ sought. BlocksPart (λ x. is_lt (entry_cmp x sought)) c.as_slice.result.now c.block_from-at.result) c.sought.ensures c.block_from-at.ensures.parted) in
     with_entry_in_block c.args.entry c.self.inside.blocks.items (c.block_from-at.result - 1) (omega (arith, whole, c.if-at-gt0.true)) (λ i d below. parted.0 i d (omega arith) (omega arith)) (inr (omega (arith, whole, c.if-at-gt0.true)))
 
 pub returns-then-at-gt0-clause-ok : goal.returns-then-at-gt0-clause-ok
