@@ -2,6 +2,7 @@
 use Rattle.std.specs.Prelude.{◌≡◌, false, not, Option, Some, Result, Ok, Err, List, [], if◌then◌else◌}
 use Rattle.q_base.specs.declared.code.Code.TheVariants.{NotBuilt}
 use Rattle.q_base.specs.declared.errors.SqlError.{SqlError}
+use Rattle.q_base.specs.declared.ids.ObjId.{ObjId}
 use Rattle.q_base.specs.declared.errors.Stop.{Stop}
 use Rattle.q_base.specs.declared.errors.Stop.TheVariants.{Sql, NoMemory}
 use Rattle.q_value.specs.declared.value.SqlType.{SqlType}
@@ -19,14 +20,15 @@ use Rattle.analyzer.specs.declared.statements.Analysed.{Analysed}
 use Rattle.analyzer.specs.Analysis.{Outcome, start, state_after}
 use Rattle.analyzer.specs.Queries.{read_select, query_of, types_from, is_empty}
 
--- an analysed statement, the types of its parameters and of its answer
+-- an analysed statement, the objects of its relation names, the types of its parameters and of its answer
 pub record Found : Type 0 where
   pub bound : Bound
+  pub ids : List ObjId
   pub params : List SqlType
   pub result : ResultType
 
 abbrev pub seen : Analysed → Found
-seen a = record { bound = a.bound.value; params = a.params; result = a.result }
+seen a = record { bound = a.bound.value; ids = a.ids; params = a.params; result = a.result }
 
 -- a call gives what is expected, or stops for want of memory
 abbrev pub AnalysedAs : Result Found SqlError → Result Analysed Stop → Type 0
@@ -35,7 +37,7 @@ AnalysedAs expected (Err (Sql error)) = expected ≡ Err error
 AnalysedAs expected (Err NoMemory) = Unit {0}
 
 abbrev pub found_of : Typed → List SqlType → Found
-found_of typed types = record { bound = bound.Select typed.query; params = types; result = record { columns = Some typed.columns } }
+found_of typed types = record { bound = bound.Select typed.query; ids = []; params = types; result = record { columns = Some typed.columns } }
 
 abbrev pub finished : Select → Parts → State → Found
 finished select parts s = found_of (query_of select parts s.aggregates) (types_from [] s.known)

@@ -22,5 +22,5 @@ mod statements;
 mod types;
 
 pub use arguments::analyse_args;
-pub use statements::{Analysed, analyse};
+pub use statements::{Analysed, NameIds, Names, analyse};
 pub use types::{declared_types, type_named};

@@ -4,7 +4,7 @@ ghost use Rattle.analyzer.specs.Statements as spec;
 
 use crate::queries::{Parts, Typed, query_of, read_select, types_of};
 use crate::state::State;
-use q_base::{Code, ListOf, NoMemory, Stop, Work, refusal};
+use q_base::{Code, ListOf, NoMemory, ObjId, SchemaList, Stop, Work, refusal};
 use q_value::{SqlType, TypeList};
 use query_tree::{Bound, ResultType};
 use sql_tree::{Select, Statement};
@@ -12,10 +12,23 @@ use std::alloc::Global;
 use std::rc::Rc;
 use std::sync::ledger::Ledger;
 
+/// The objects of a statement's relation names, in text order.
+pub type NameIds = ListOf<ObjId>;
+
+/// How the relation names of a statement find their objects.
+#[derive(Clone, Copy)]
+pub enum Names<'a> {
+    /// Along the schemas of the search path.
+    Path(&'a SchemaList),
+    /// As an earlier analysis found them.
+    Kept(&'a NameIds),
+}
+
 /// What an analysis gives.
 #[derive(Drop)]
 pub struct Analysed {
     pub bound: Rc<Bound>,
+    pub ids: NameIds,
     /// The types of the parameters, from `$1` on.
     pub params: TypeList,
     pub result: ResultType,
@@ -26,10 +39,11 @@ pub struct Analysed {
 /// type takes that of its first use (PostgreSQL's manual, "PREPARE"). One analysis is counted in either case.
 ///
 /// The order of refusals is this project's own. A statement other than a SELECT without FROM is refused as not
-/// built yet.
+/// built yet, so no relation name is looked for so far.
 pub fn analyse<L: Ledger>(
     alloc: Global,
     tree: &Statement,
+    _names: Names<'_>,
     declared: Option<&[SqlType]>,
     work: &mut Work<L>,
 ) -> Result<Analysed, Stop>
@@ -97,6 +111,7 @@ fn finish(alloc: Global, state: State, select: &Select, parts: Parts) -> Result<
     };
     Ok(Analysed {
         bound,
+        ids: ListOf::new(alloc),
         params,
         result,
     })

@@ -2,7 +2,5 @@
 #![tactic(auto)]
 
 mod row_buffer;
-#[cfg(test)]
-mod tests;
 
 pub use row_buffer::RowBuffer;

@@ -5,8 +5,6 @@ mod index;
 pub mod laws;
 mod marks;
 mod source;
-#[cfg(test)]
-mod tests;
 
 pub use marks::Marks;
 pub use source::SourceId;

@@ -10,6 +10,3 @@ mod operators;
 
 pub use eval::{EvalStop, eval_cond, eval_fallible, eval_target};
 pub use operators::{Op, OpRow, find_op};
-
-#[cfg(test)]
-mod tests;

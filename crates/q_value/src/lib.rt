@@ -7,8 +7,6 @@ pub mod laws;
 mod order;
 mod print;
 mod statistics;
-#[cfg(test)]
-mod tests;
 mod texts;
 mod value;
 

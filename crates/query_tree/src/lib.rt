@@ -27,6 +27,3 @@ pub use statement::{
 pub use target::{
     AggregatePlace, ArithmeticOp, ColumnPlace, CompareOp, Cond, CondList, Target, TargetList,
 };
-
-#[cfg(test)]
-mod tests;

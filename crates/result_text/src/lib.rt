@@ -9,6 +9,3 @@ mod tags;
 pub use errors::{error_text, warning_text};
 pub use rows::rows_text;
 pub use tags::{Tag, TagKind, tag_text};
-
-#[cfg(test)]
-mod tests;

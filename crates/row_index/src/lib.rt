@@ -9,8 +9,6 @@ pub mod laws;
 mod lead;
 mod order;
 mod stored;
-#[cfg(test)]
-mod tests;
 
 pub use entries::{Edge, IndexPlace, Key, KeyRange};
 pub use index::Index;

@@ -5,8 +5,6 @@ mod given;
 mod held;
 mod settings;
 mod shown;
-#[cfg(test)]
-mod tests;
 mod transaction;
 
 pub use settings::{SetMark, Settings};

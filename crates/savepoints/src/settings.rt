@@ -171,6 +171,3 @@ impl Settings {
         self.log.clear();
     }
 }
-
-#[cfg(test)]
-mod tests;

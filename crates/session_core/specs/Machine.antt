@@ -2,10 +2,10 @@ use Rattle.std.specs.Prelude.{◌≡◌, ℕ, List, [], ◌∷◌, Result, Ok, E
 use Rattle.q_base.specs.declared.errors.SqlError.{SqlError}
 use Rattle.q_base.specs.declared.settings.Mode.{Mode}
 use Rattle.sql_tokens.specs.declared.token.Token.{Token}
-use Rattle.sql_tokens.specs.Tokens.{tokens_of}
+use Rattle.sql_tokens.specs.Spelling.{TextSpells}
 use Rattle.sql_tree.specs.declared.command.Command.{Command}
 use Rattle.sql_tree.specs.declared.command.Command.TheVariants.{Statement, Prepare, Execute}
-use Rattle.sql_reader.specs.Commands.{command_read}
+use Rattle.sql_reader.specs.CommandGrammar.{IsRead}
 use Rattle.session_core.specs.declared.session.Done.{Done}
 use Rattle.session_core.specs.State.{State, empty_state, Refuses}
 use Rattle.session_core.specs.Prepared.{Selects, Prepares, Executes, Unbuilt}
@@ -22,14 +22,14 @@ abbrev pub Follows : State → Result Command SqlError → Done → List ℕ →
 Follows state (Ok command) = Performs state command
 Follows state (Err error) = Refuses state error
 
--- the same of a text whose tokens are found, or that is refused
+-- the same of a text whose tokens are found, and of what these spell; or of a text that is refused
 abbrev pub Reads : State → Result (List Token) SqlError → Done → List ℕ → State → Type 0
-Reads state (Ok tokens) = Follows state (command_read tokens)
-Reads state (Err error) = Refuses state error
+Reads state (Ok tokens) end output state2 = (read : Result Command SqlError) × IsRead tokens read × Follows state read end output state2
+Reads state (Err error) end output state2 = Refuses state error end output state2
 
 -- one step: from state the text of a command gives that end and output, and leads to state2
 abbrev pub Step : State → List ℕ → Done → List ℕ → State → Type 0
-Step state text = Reads state (tokens_of text)
+Step state text end output state2 = (given : Result (List Token) SqlError) × TextSpells text given × Reads state given end output state2
 
 -- steps lead from state through the texts, with those ends and outputs, to state2
 abbrev pub Leads : State → List (List ℕ) → List (Done × List ℕ) → State → Type 0

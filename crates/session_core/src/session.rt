@@ -1,7 +1,7 @@
-ghost use Rattle.std.specs.Prelude.{◌≡◌, ◌++◌, ◌+◌, ◌^◌, ◌<◌, ◌≤◌, ℕ, List, IfOk, IfErr, OnOk, length};
+ghost use Rattle.std.specs.Prelude.{◌≡◌, ◌++◌, ◌+◌, ◌^◌, ◌<◌, ◌≤◌, ℕ, List, Ok, IfOk, IfErr, OnOk, length};
 ghost use Rattle.q_base.specs.Stops.{StopsBy};
 ghost use Rattle.session_core.specs.State.{empty_state};
-ghost use Rattle.session_core.specs.Machine.{Step, Performs};
+ghost use Rattle.session_core.specs.Machine.{Step, Reads, Performs};
 ghost use Rattle.result_text.specs.Messages.{error_line};
 
 mod prepared;
@@ -10,7 +10,7 @@ use crate::statements::Statements;
 use q_base::{Code, Mode, NoMemory, Stop, Work, refusal};
 use result_text::error_text;
 use sql_reader::read_command;
-use sql_tokens::tokens;
+use sql_tokens::{Token, tokens};
 use sql_tree::Command;
 use std::alloc::Global;
 use std::marker::Model;
@@ -96,7 +96,21 @@ impl Session {
         ensures refused { IfErr result (StopsBy (λ error. (out.new.items ≡ out.old.items) × Step self.old.state text.now Done.Refused (error_line error) self.new.state)) }
     {
         let tokens = tokens(self.alloc, text)?;
-        let command = read_command(self.alloc, tokens.as_slice())?;
+        self.perform_tokens(tokens.as_slice(), out, work)
+    }
+
+    // The same of the tokens that its text spells.
+    fn perform_tokens<L: Ledger>(
+        &mut self,
+        tokens: &[Token],
+        out: &mut Vec<u8>,
+        work: &mut Work<L>,
+    ) -> Result<(), Stop>
+        ensures ran { self.new.ran ≡ self.old.ran }
+        ensures done { OnOk result ((output : List ℕ) × (out.new.items ≡ out.old.items ++ output) × Reads self.old.state (Ok tokens.now) Done.Ok output self.new.state) }
+        ensures refused { IfErr result (StopsBy (λ error. (out.new.items ≡ out.old.items) × Reads self.old.state (Ok tokens.now) Done.Refused (error_line error) self.new.state)) }
+    {
+        let command = read_command(self.alloc, tokens)?;
         self.run(command, out, work)
     }
 

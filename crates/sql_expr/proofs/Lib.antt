@@ -1,4 +1,11 @@
+pub mod Agreement
+pub mod ExpressionAgreement
+pub mod Heads
 pub mod LevelLemmas
 pub mod NameLemmas
+pub mod OperandAgreement
 pub mod Turns
 pub mod Leaving
+pub mod ListAgreement
+pub mod TokenKinds
+pub mod Slices

@@ -1,5 +1,7 @@
 pub mod Expressions
+pub mod Grammar
 pub mod Levels
+pub mod Lines
 pub mod Literals
 pub mod Load
 pub mod Names

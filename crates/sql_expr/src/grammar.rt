@@ -31,7 +31,7 @@ use std::alloc::Global;
 
 /// The lines of the grammar to which a nested expression leads back.
 #[derive(Clone, Copy)]
-enum Level {
+pub enum Level {
     Whole,
     Negated,
     Signed,

@@ -16,6 +16,3 @@ pub use levels::load;
 pub use literals::{eat_digits, eat_literal, eat_param, numeral};
 pub use names::{eat_name, is_reserved, name, sees_name};
 pub use slice::read_expr;
-
-#[cfg(test)]
-mod tests;

@@ -1,2 +1,12 @@
+pub mod BlockGrammar
+pub mod CatalogGrammar
+pub mod ChangeGrammar
+pub mod CommandGrammar
 pub mod Commands
+pub mod CursorGrammar
+pub mod Examples
 pub mod Leading
+pub mod LineGrammar
+pub mod NameGrammar
+pub mod PreparedGrammar
+pub mod QueryGrammar

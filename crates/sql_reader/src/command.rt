@@ -1,6 +1,7 @@
 ghost use Rattle.std.specs.Prelude.{◌≡◌, Some, Ok, Err, MatchResult};
 ghost use Rattle.q_base.specs.Stops.{StopsBy};
 ghost use Rattle.sql_expr.specs.Reading.{Reads};
+ghost use Rattle.sql_reader.specs.CommandGrammar.{IsRead};
 ghost use Rattle.sql_reader.specs.Commands as spec;
 
 use crate::leading::{CatalogWord, Keyword, SessionWord, keyword_of};
@@ -22,6 +23,15 @@ use std::alloc::Global;
 /// PostgreSQL also refuses expressions that are nested too deeply with 54001 (its manual, max_stack_depth);
 /// this measure of them is this project's own.
 pub fn read_command(alloc: Global, tokens: &[Token]) -> Result<Command, Stop>
+    ensures { MatchResult result
+        (λ command. IsRead tokens.now (Ok command))
+        (StopsBy (λ error. IsRead tokens.now (Err error))) }
+{
+    command_by_steps(alloc, tokens)
+}
+
+/// The same as the reading functions have it.
+fn command_by_steps(alloc: Global, tokens: &[Token]) -> Result<Command, Stop>
     ensures { MatchResult result
         (λ command. spec.command_read tokens.now ≡ Ok command)
         (StopsBy (λ error. spec.command_read tokens.now ≡ Err error)) }

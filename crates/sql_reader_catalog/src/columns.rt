@@ -19,7 +19,7 @@ use std::alloc::Global;
 
 /// What may stand behind the type in a column's definition.
 #[derive(Drop)]
-enum Part {
+pub enum Part {
     Nulls(Nullability),
     Default(Literal),
     Key(KeyKind),

@@ -30,14 +30,14 @@ use std::alloc::Global;
 
 /// The table of an INSERT, and the columns that are named behind it.
 #[derive(Drop)]
-struct InsertTarget {
-    table: QName,
-    columns: NameList,
+pub struct InsertTarget {
+    pub table: QName,
+    pub columns: NameList,
 }
 
 /// An UPDATE or DELETE, up to what says which rows it is for.
 #[derive(Drop)]
-pub(crate) enum Change {
+pub enum Change {
     Update(QName, AssignmentList),
     Delete(QName),
 }

@@ -22,7 +22,7 @@ use std::alloc::Global;
 
 /// The options of DECLARE.
 #[derive(Clone, Copy)]
-enum CursorOption {
+pub enum CursorOption {
     Scroll,
     NoScroll,
     Insensitive,

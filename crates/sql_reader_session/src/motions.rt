@@ -18,7 +18,7 @@ use std::alloc::Global;
 
 /// The words with which a motion begins.
 #[derive(Clone, Copy)]
-enum Direction {
+pub enum Direction {
     Next,
     Prior,
     First,

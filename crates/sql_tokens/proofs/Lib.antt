@@ -1,5 +1,11 @@
 pub mod Agreement
 pub mod FirstText
+pub mod SpellingGaps
+pub mod SpellingRuns
+pub mod SpellingSigns
+pub mod SpellingTokens
+pub mod SpellingWhole
+pub mod SpellingWords
 pub mod Taking
 pub mod TokensLemmas
 pub mod TokensWhole

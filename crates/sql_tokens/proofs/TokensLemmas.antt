@@ -43,7 +43,7 @@ text_before-text_before (Ok content) first second = ap (λ (xs : List ℕ). Ok (
 text_before-text_before (Err e) first second = refl
 
 -- the content by what follows its first character
-abbrev content_then : ℕ → ℕ → List ℕ → Option (List ℕ) → Outcome (List ℕ × List ℕ)
+abbrev pub content_then : ℕ → ℕ → List ℕ → Option (List ℕ) → Outcome (List ℕ × List ℕ)
 content_then quote c cs None = Ok ([], cs)
 content_then quote c cs (Some after) = content_at quote after >>= text_before (encode_utf8 c)
 
@@ -60,7 +60,7 @@ unfolding content_at
 last_by_test true quote c = refl
 last_by_test false quote c = refl
 
-content_first : (quote c : ℕ) (cs : List ℕ) → content_at quote (c ∷ cs) ≡ content_then quote c cs (after_character quote c cs)
+pub content_first : (quote c : ℕ) (cs : List ℕ) → content_at quote (c ∷ cs) ≡ content_then quote c cs (after_character quote c cs)
 unfolding content_at
 content_first quote c [] = last_by_test (c == quote) quote c
 content_first quote c (d ∷ cs) = content_by_tests (c == quote) (d == quote) quote c d cs

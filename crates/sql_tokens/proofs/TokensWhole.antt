@@ -11,7 +11,7 @@ use Rattle.sql_tokens.proofs.TokensLemmas.{tokens_first}
 
 -- ---- what is read leaves at most so many characters
 
-abbrev Within : {A : Type 0} → ℕ → Outcome (A × List ℕ) → Type 0
+abbrev pub Within : {A : Type 0} → ℕ → Outcome (A × List ℕ) → Type 0
 Within n (Ok read) = length read.1 ≤ n
 Within n (Err e) = Unit {0}
 
@@ -153,7 +153,7 @@ piece_by_gap n (Ok gap) found le h = piece_of-within n gap found le h
 piece_by_gap n (Err e) found le h = tt
 
 -- a piece has a character at least
-piece_at-within : (place : Place) (c : ℕ) (cs : List ℕ) → Within (length cs) (piece_at place (c ∷ cs))
+pub piece_at-within : (place : Place) (c : ℕ) (cs : List ℕ) → Within (length cs) (piece_at place (c ∷ cs))
 unfolding piece_at
 piece_at-within place c cs = piece_by_gap _ (after_gap place (c ∷ cs)) (token_at place (c ∷ cs)) (after_gap-within place c cs) (token_at-within place c cs)
 
@@ -163,7 +163,7 @@ then_same : (k n m : ℕ) (place : Place) (r : Outcome (Option Token × List ℕ
 then_same k n m place (Ok piece) h same = ap (λ (r : Outcome (List Token)). r >>= tokens_before (option_to_list piece.0)) (same (behind_piece place piece.0) piece.1 h)
 then_same k n m place (Err e) h same = refl
 
-tokens_from-nil : (n : ℕ) (place : Place) → tokens_from n place [] ≡ Ok []
+pub tokens_from-nil : (n : ℕ) (place : Place) → tokens_from n place [] ≡ Ok []
 unfolding tokens_from
 tokens_from-nil zero place = refl
 tokens_from-nil (suc n) place = refl

@@ -1,6 +1,7 @@
 ghost use Rattle.std.specs.Prelude.{◌≡◌, ◌++◌, MatchResult, IfOk, OnOk, option_to_list, length, chars};
 ghost use Rattle.q_base.specs.Stops.{StopsBy};
 ghost use Rattle.sql_tokens.specs.declared.lexer.Place.TheVariants as the_place;
+ghost use Rattle.sql_tokens.specs.Spelling.{TextSpells};
 ghost use Rattle.sql_tokens.specs.Tokens.{Gives, Takes, Passes, has_comments, is_start, behind, behind_piece, after_comment, after_gap, piece_at, tokens_from, tokens_of};
 
 use crate::{Token, TokenList};
@@ -10,8 +11,6 @@ use std::alloc::Global;
 mod characters;
 mod comments;
 mod pieces;
-#[cfg(test)]
-mod tests;
 
 use characters::is_blank;
 use comments::{after_block, after_line};
@@ -19,7 +18,7 @@ use pieces::read_token;
 
 /// Where in a command's text a token or a comment may stand.
 #[derive(Clone, Copy)]
-enum Place {
+pub enum Place {
     /// Before the first token: the only place of a `\`.
     Start,
     /// After the first token of a command without a `\`.
@@ -68,7 +67,8 @@ impl Place {
 /// for the characters that an operator may have.
 #[tactic(auto, unfolding(crate::specs::Tokens::tokens_of))]
 pub fn tokens(alloc: Global, text: &str) -> Result<TokenList, Stop>
-    ensures { MatchResult result (λ ts. tokens_of text.now ≡ Ok ts) (StopsBy (λ e. tokens_of text.now ≡ Err e)) }
+    ensures exact { MatchResult result (λ ts. tokens_of text.now ≡ Ok ts) (StopsBy (λ e. tokens_of text.now ≡ Err e)) }
+    ensures spelt { MatchResult result (λ ts. TextSpells text.now (Ok ts)) (StopsBy (λ e. TextSpells text.now (Err e))) }
 {
     let characters = characters_of(alloc, text)?;
     read_tokens(alloc, characters.as_slice())

@@ -7,8 +7,6 @@ ghost use Rattle.sql_tokens.specs.FirstText.{IsFirst};
 ghost use Rattle.sql_tokens.specs.Splitting.{Input, scan_of, taken_from, IsCommand, without_front, Takes, SameTake, Bounds};
 
 mod place;
-#[cfg(test)]
-mod tests;
 mod text;
 mod took;
 

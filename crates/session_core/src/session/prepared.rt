@@ -9,8 +9,8 @@ ghost use Rattle.result_text.specs.Messages.{error_line};
 use super::Session;
 use crate::answers::answer;
 use crate::arguments::{argument_values, stop_of};
-use analyzer::{Analysed, analyse, analyse_args, declared_types};
-use q_base::{Code, Stop, Work, refusal, refusal_naming};
+use analyzer::{Analysed, Names, analyse, analyse_args, declared_types};
+use q_base::{Code, ListOf, SchemaList, Stop, Work, refusal, refusal_naming};
 use q_value::{Row, Rows, Value};
 use query_tree::Bound;
 use result_text::{Tag, rows_text, tag_text};
@@ -34,7 +34,8 @@ impl Session {
         ensures done { OnOk result ((output : List ℕ) × (out.new.items ≡ out.old.items ++ output) × spec.Selects self.old.state tree Done.Ok output self.new.state) }
         ensures refused { IfErr result (StopsBy (λ error. (out.new.items ≡ out.old.items) × spec.Selects self.old.state tree Done.Refused (error_line error) self.new.state)) }
     {
-        let found = analyse(self.alloc, &tree, None, work)?;
+        let path: SchemaList = ListOf::new(self.alloc);
+        let found = analyse(self.alloc, &tree, Names::Path(&path), None, work)?;
         let rows = rows_of(self.alloc, &found.bound, &[])?;
         rows_text(self.alloc, &found.result, &rows, out)?;
         Ok(())
@@ -65,7 +66,14 @@ impl Session {
         ensures free { IfOk result (λ _. spec.kept self.now.state.statements tree.now.name ≡ None) }
     {
         let types = declared_types(self.alloc, tree.types.as_slice())?;
-        let found = analyse(self.alloc, &tree.statement, Some(types.as_slice()), work)?;
+        let path: SchemaList = ListOf::new(self.alloc);
+        let found = analyse(
+            self.alloc,
+            &tree.statement,
+            Names::Path(&path),
+            Some(types.as_slice()),
+            work,
+        )?;
         self.admit(tree.name.as_str())?;
         Ok(found)
     }

@@ -1,0 +1,172 @@
+-- Row changes are read exactly where they are spelt.
+use Rattle.std.proofs.Common.{◌≡◌, inl, inr, ℕ, true, List, [], ◌∷◌, None, codes, refl, subst, arith}
+use Rattle.sql_tokens.specs.declared.token.Sign.TheVariants as sign
+use Rattle.sql_tree.specs.declared.names.QName.{QName}
+use Rattle.sql_tree.specs.declared.rows.InsertTree.{InsertTree}
+use Rattle.sql_tree.specs.declared.rows.NewValue.TheVariants as value_of
+use Rattle.sql_tree.specs.declared.statement.PositionedTree.{PositionedTree}
+use Rattle.sql_reader_query.specs.declared.changes.Change.{Change}
+use Rattle.sql_reader_query.specs.declared.changes.Change.TheVariants.{Update, Delete}
+use Rattle.sql_reader_query.specs.declared.changes.InsertTarget.{InsertTarget}
+use Rattle.sql_expr.specs.Reading.{Text, Tokens, ◌>>=◌, ◌>>◌, pure, expect_word}
+use Rattle.sql_expr.specs.Names.{is_reserved}
+use Rattle.sql_expr.specs.Lines.{Line, gives, nowhere, key, mark, maybe, list}
+use Rattle.sql_expr.specs.Lines as lines
+use Rattle.sql_expr.specs.Grammar as expression
+use Rattle.sql_reader_query.specs.Changes as spec
+use Rattle.sql_reader_query.specs.Lists as spec_lists
+use Rattle.sql_reader_query.specs.Names as spec_names
+use Rattle.sql_reader_query.specs.Outputs as spec_outputs
+use Rattle.sql_reader_query.specs.Query as spec_query
+use Rattle.sql_reader.specs.ChangeGrammar as grammar
+use Rattle.sql_reader.specs.NameGrammar as names
+use Rattle.sql_reader.specs.QueryGrammar.{any}
+use Rattle.sql_expr.proofs.Heads.{Barred, Head, all_avoid}
+use Rattle.sql_expr.proofs.Agreement.{Agrees, nothing, bar_word, bar_sign, agrees-pure, agrees-refuse, agrees-bind, agrees-same, agrees-wider, agrees-fewer, agrees-word, agrees-sign, agrees-expect_word, agrees-expect_sign}
+use Rattle.sql_expr.proofs.ListAgreement.{agrees-list}
+use Rattle.sql_expr.proofs.ExpressionAgreement.{agrees-expression, expression_heads, operators, list_tail, agrees-name}
+use Rattle.sql_reader.proofs.NameAgreement.{agrees-relation, agrees-enclosed_names}
+use Rattle.sql_reader.proofs.OptionalAgreement.{also, agrees-any, agrees-maybe}
+use Rattle.sql_reader.proofs.OutputAgreement.{outputs_tail, agrees-outputs}
+
+-- ---- what could go on behind the parts of a change
+
+-- behind a table that columns may follow
+abbrev target_tail : Barred
+target_tail = also [] (sign.LeftParen ∷ sign.Dot ∷ []) nothing
+
+-- behind [WHERE expression]
+abbrev pub where_tail : Barred
+where_tail = also (codes "where" ∷ []) [] list_tail
+
+-- behind RETURNING, also where there is none and no WHERE
+abbrev pub returning_tail : Barred
+returning_tail = also (codes "where" ∷ codes "returning" ∷ []) [] outputs_tail
+
+-- ---- INSERT
+
+abbrev target_line : Line InsertTarget
+target_line = lines.◌>>◌ (key (codes "into")) (lines.◌>>=◌ names.relation (λ table. lines.◌>>=◌ (any names.parenthesized_names) (λ columns. gives (record { table = table; columns = columns }))))
+
+abbrev rows_line : QName → List Text → Line InsertTree
+rows_line table columns = lines.◌>>◌ (key (codes "values")) (lines.◌>>=◌ (list grammar.row) (λ rows. lines.◌>>=◌ grammar.returning (λ given. gives (record { table = table; columns = columns; rows = rows; returning = given }))))
+
+there : (ts : Tokens) (i : InsertTree) (us : Tokens) → (lines.◌>>=◌ target_line (λ into. rows_line into.table into.columns)) ts i us → grammar.insertion ts i us
+unfolding grammar.insertion
+there ts i us (target, middle, (u, behind_into, into, (table, behind_table, named, (columns, end, listed, given))), rest) = (
+  u,
+  behind_into,
+  into,
+  (
+    table,
+    behind_table,
+    named,
+    (
+      columns,
+      end,
+      listed,
+      subst (λ t. rows_line t.table t.columns end i us) given.0 (subst (λ vs. rows_line target.table target.columns vs i us) given.1 rest),
+    ),
+  ),
+)
+
+back : (ts : Tokens) (i : InsertTree) (us : Tokens) → grammar.insertion ts i us → (lines.◌>>=◌ target_line (λ into. rows_line into.table into.columns)) ts i us
+unfolding grammar.insertion
+back ts i us (u, behind_into, into, (table, behind_table, named, (columns, end, listed, rest))) =
+    (record { table = table; columns = columns }, end, (u, behind_into, into, (table, behind_table, named, (columns, end, listed, (refl, refl)))), rest)
+
+agrees-target : {n : ℕ} → Agrees (Unit {0}) n spec.target target_line 2 (Head.word (codes "into") ∷ []) target_tail
+unfolding spec.target spec_names.optional_names names.parenthesized_names
+agrees-target = agrees-bind (agrees-expect_word (codes "into")) (λ u. agrees-bind agrees-relation (λ table.
+    agrees-bind (agrees-sign sign.LeftParen (agrees-wider target_tail refl agrees-enclosed_names) (agrees-pure [] target_tail) refl) (λ columns. agrees-pure (record { table = table; columns = columns }) target_tail) refl) refl) refl
+
+-- ---- UPDATE and DELETE
+
+change-there : (ts : Tokens) (c : Change) (us : Tokens)
+    → (lines.◌or◌ (lines.◌>>◌ (key (codes "update")) grammar.updated) (lines.◌or◌ (lines.◌>>◌ (key (codes "delete")) grammar.deleted) nowhere)) ts c us → grammar.changed ts c us
+unfolding grammar.changed
+change-there ts c us (inl update) = inl update
+change-there ts c us (inr (inl delete)) = inr delete
+change-there ts c us (inr (inr none)) = absurd none
+
+change-back : (ts : Tokens) (c : Change) (us : Tokens) → grammar.changed ts c us
+    → (lines.◌or◌ (lines.◌>>◌ (key (codes "update")) grammar.updated) (lines.◌or◌ (lines.◌>>◌ (key (codes "delete")) grammar.deleted) nowhere)) ts c us
+unfolding grammar.changed
+change-back ts c us (inl update) = inl update
+change-back ts c us (inr delete) = inr (inl delete)
+
+-- ---- WHERE CURRENT OF name
+
+abbrev position_line : Line Text
+position_line = lines.◌>>◌ (key (codes "where")) (lines.◌>>◌ (key (codes "current")) (lines.◌>>◌ (key (codes "of")) expression.name))
+
+abbrev positioned_line : Change → Line PositionedTree
+positioned_line c = lines.◌>>=◌ position_line (λ cursor. lines.◌>>=◌ grammar.returning (λ given. gives (record { statement = spec.statement_of c None given; cursor = cursor })))
+
+positioned-there : (c : Change) (ts : Tokens) (p : PositionedTree) (us : Tokens) → positioned_line c ts p us → grammar.positioned c ts p us
+unfolding grammar.positioned
+positioned-there c ts p us (cursor, middle, (u, behind_where, where_word, (v, behind_current, current, (x, behind_of, of, named))), rest) =
+    (u, behind_where, where_word, (v, behind_current, current, (x, behind_of, of, (cursor, middle, named, rest))))
+
+positioned-back : (c : Change) (ts : Tokens) (p : PositionedTree) (us : Tokens) → grammar.positioned c ts p us → positioned_line c ts p us
+unfolding grammar.positioned
+positioned-back c ts p us (u, behind_where, where_word, (v, behind_current, current, (x, behind_of, of, (cursor, middle, named, rest)))) =
+    (cursor, middle, (u, behind_where, where_word, (v, behind_current, current, (x, behind_of, of, named))), rest)
+
+agrees-position : {n : ℕ} → Agrees (Unit {0}) n spec.position position_line 4 (Head.word (codes "where") ∷ []) nothing
+unfolding spec.position
+agrees-position = agrees-bind (agrees-expect_word (codes "where")) (λ u. agrees-bind (agrees-expect_word (codes "current")) (λ v. agrees-bind (agrees-expect_word (codes "of")) (λ x. agrees-name) refl) refl) refl
+
+module _ {n : ℕ} where
+  pub agrees-returning : (tail : Barred) → all_avoid outputs_tail (Head.others tail ∷ []) ≡ true → all_avoid (bar_word (codes "returning")) (Head.others tail ∷ []) ≡ true
+      → Agrees (Unit {0}) n spec_outputs.returning grammar.returning 0 (Head.word (codes "returning") ∷ Head.others tail ∷ []) tail
+  unfolding spec_outputs.returning grammar.returning
+  agrees-returning tail ends apart = agrees-any (codes "returning") tail agrees-outputs ends apart
+
+  agrees-value : Agrees (Unit {0}) n spec.value grammar.value 1 (Head.word (codes "default") ∷ expression_heads) operators
+  unfolding spec.value grammar.value is_reserved
+  agrees-value = agrees-word (codes "default") (agrees-pure value_of.Default operators) (agrees-bind agrees-expression (λ x. agrees-pure (value_of.Expr x) operators) refl) refl
+
+  pub agrees-row : Agrees (Unit {0}) n spec.row grammar.row 1 (Head.sign sign.LeftParen ∷ []) nothing
+  unfolding spec.row grammar.row spec_lists.listed is_reserved
+  agrees-row = agrees-fewer 1 (omega arith) (agrees-bind (agrees-expect_sign sign.LeftParen) (λ u. agrees-bind (agrees-list list_tail agrees-value refl refl) (λ values.
+      agrees-bind (agrees-expect_sign sign.RightParen) (λ v. agrees-pure values nothing) refl) refl) refl)
+
+  agrees-rows : (table : QName) (columns : List Text) → Agrees (Unit {0}) n
+      (expect_word (codes "values") >> (spec_lists.listed spec.row >>= (λ rows. spec_outputs.returning >>= (λ given. pure (record { table = table; columns = columns; rows = rows; returning = given })))))
+      (rows_line table columns) 2 (Head.word (codes "values") ∷ []) returning_tail
+  unfolding spec_lists.listed is_reserved
+  agrees-rows table columns = agrees-bind (agrees-expect_word (codes "values")) (λ u. agrees-bind (agrees-list (bar_sign sign.Comma) agrees-row refl refl) (λ rows.
+      agrees-bind (agrees-returning returning_tail refl refl) (λ given. agrees-pure (record { table = table; columns = columns; rows = rows; returning = given }) returning_tail) refl) refl) refl
+
+  pub agrees-insertion : Agrees (Unit {0}) n spec.insertion grammar.insertion 4 (Head.word (codes "into") ∷ []) returning_tail
+  unfolding spec.insertion
+  agrees-insertion = agrees-same there back (agrees-bind agrees-target (λ into. agrees-rows into.table into.columns) refl)
+
+  agrees-assignment : Agrees (Unit {0}) n spec.assignment grammar.assignment 1 (Head.name ∷ []) operators
+  unfolding spec.assignment grammar.assignment
+  agrees-assignment = agrees-fewer 1 (omega arith) (agrees-bind agrees-name (λ column. agrees-bind (agrees-expect_sign sign.Equal) (λ u. agrees-bind agrees-value (λ new.
+      agrees-pure (record { column = column; value = new }) operators) refl) refl) refl)
+
+  pub agrees-updated : Agrees (Unit {0}) n spec.updated grammar.updated 3 (Head.name ∷ []) list_tail
+  unfolding spec.updated grammar.updated spec_lists.listed
+  agrees-updated = agrees-bind agrees-relation (λ table. agrees-bind (agrees-expect_word (codes "set")) (λ u. agrees-bind (agrees-list list_tail agrees-assignment refl refl) (λ assignments.
+      agrees-pure (Update table assignments) list_tail) refl) refl) refl
+
+  pub agrees-deleted : Agrees (Unit {0}) n spec.deleted grammar.deleted 2 (Head.word (codes "from") ∷ []) list_tail
+  unfolding spec.deleted grammar.deleted
+  agrees-deleted = agrees-bind (agrees-expect_word (codes "from")) (λ u. agrees-bind agrees-relation (λ table. agrees-pure (Delete table) list_tail) refl) refl
+
+  pub agrees-change : Agrees (Unit {0}) n spec.change grammar.changed 3 (Head.word (codes "update") ∷ Head.word (codes "delete") ∷ []) list_tail
+  unfolding spec.change
+  agrees-change = agrees-same change-there change-back (agrees-word (codes "update") agrees-updated (agrees-word (codes "delete") agrees-deleted (agrees-refuse 3 [] list_tail) refl) refl)
+
+  pub agrees-searched : (c : Change) → Agrees (Unit {0}) n (spec.searched c) (grammar.searched c) 0 (Head.word (codes "where") ∷ Head.others where_tail ∷ []) returning_tail
+  unfolding spec.searched grammar.searched spec_query.condition is_reserved
+  agrees-searched c = agrees-bind (agrees-maybe (codes "where") where_tail agrees-expression refl refl) (λ filter. agrees-bind (agrees-returning returning_tail refl refl) (λ given.
+      agrees-pure (spec.statement_of c filter given) returning_tail) refl) refl
+
+  pub agrees-positioned : (c : Change) → Agrees (Unit {0}) n (spec.positioned c) (grammar.positioned c) 4 (Head.word (codes "where") ∷ []) returning_tail
+  unfolding spec.positioned grammar.positioned spec.position
+  agrees-positioned c = agrees-same (positioned-there c) (positioned-back c) (agrees-bind agrees-position (λ cursor. agrees-bind (agrees-returning returning_tail refl refl) (λ given.
+      agrees-pure (record { statement = spec.statement_of c None given; cursor = cursor }) returning_tail) refl) refl)

@@ -1,0 +1,318 @@
+-- FETCH, MOVE and CLOSE are read exactly where they are spelt.
+use Rattle.std.proofs.Common.{◌≡◌, ◌⊎◌, inl, inr, ⊎_elim, ℕ, Bool, true, false, cond, ◌||◌, List, [], ◌∷◌, ◌++◌, Option, Some, None, codes, refl, sym, ap, subst, ◌∙◌, arith}
+use Rattle.std.specs.Prelude.{ℤ}
+use Rattle.std.specs.List.{list_any}
+use Rattle.std.specs.Str.{bytes_eq}
+use Rattle.std.proofs.lemmas.Slice.Eq.{bytes_eq-Decides}
+use Rattle.sql_tokens.specs.declared.token.Token.{Token}
+use Rattle.sql_tokens.specs.declared.token.Token.TheVariants as token
+use Rattle.sql_tokens.specs.declared.token.Sign.TheVariants as sign
+use Rattle.sql_tree.specs.declared.command.Command.TheVariants as command
+use Rattle.sql_tree.specs.declared.cursors.Motion.{Motion}
+use Rattle.sql_tree.specs.declared.cursors.Motion.TheVariants as moves
+use Rattle.sql_expr.specs.Reading.{Text, Tokens, Outcome, Parser, and_then, ◌>>=◌, ◌<$>◌, pure, taken}
+use Rattle.sql_expr.specs.Lines.{Line, gives, one, unless, key, mark, maybe}
+use Rattle.sql_expr.specs.Lines as lines
+use Rattle.sql_expr.specs.Literals.{digits_of}
+use Rattle.sql_expr.specs.Names.{is_reserved}
+use Rattle.sql_reader_session.specs.declared.motions.Direction.{Direction}
+use Rattle.sql_reader_session.specs.declared.motions.Direction.TheVariants as direction
+use Rattle.sql_reader_session.specs.Cursors as cursors
+use Rattle.sql_reader_session.specs.Motions.{direction_of, direction_of_word}
+use Rattle.sql_reader_session.specs.Motions as spec
+use Rattle.sql_reader_session.specs.Numbers.{number_of, begins_integer, signed}
+use Rattle.sql_reader_session.specs.Numbers as numbers
+use Rattle.sql_reader.specs.CursorGrammar as grammar
+use Rattle.sql_expr.proofs.Heads.{Barred, Head, bars, is, clear, begins, begins-clear, clear-begins}
+use Rattle.sql_expr.proofs.Agreement.{Agrees, Stands, nothing, agrees-pure, agrees-bind, agrees-same, agrees-wider, agrees-word, agrees-one, agrees-test, tests-sign}
+use Rattle.sql_expr.proofs.ExpressionAgreement.{agrees-name}
+use Rattle.sql_expr.proofs.TokenKinds.{stands-number}
+use Rattle.sql_reader.proofs.OptionalAgreement.{agrees-read, agrees-looking}
+use Rattle.sql_reader.proofs.KeywordAgreement.{agrees-map, agrees-required, exactly, agrees-anything, clear-nothing, agrees-unless, agrees-flag, agrees-either}
+use Rattle.sql_reader.proofs.SettingAgreement.{numeral_heads}
+
+-- ---- numbers
+
+module _ {n : ℕ} where
+  pub agrees-count : Agrees (Unit {0}) n numbers.count grammar.count 1 (Head.number ∷ []) nothing
+  unfolding numbers.count
+  agrees-count = agrees-same there back (agrees-bind (agrees-one stands-number) (λ digits. agrees-required (number_of digits) nothing) refl)
+    where
+      there : (ts : Tokens) (a : ℕ) (us : Tokens) → lines.◌>>=◌ (one digits_of) (λ digits. exactly (number_of digits)) ts a us → grammar.count ts a us
+      there ts a us (digits, middle, (t, e, v), (found, same)) = (t, subst (λ vs. ts ≡ t ∷ vs) (sym same) e, by t v)
+        where
+          by : (t : Token) → digits_of t ≡ Some digits → grammar.count_of t ≡ Some a
+          by (token.Word w) v = cc
+          by (token.Quoted q) v = cc
+          by (token.Sign s) v = cc
+          by (token.Number d) v = let written : d ≡ digits = cc in ap number_of written ∙ found
+          by (token.Text x) v = cc
+          by (token.Param d) v = cc
+          by (token.Backslash l) v = cc
+
+      back : (ts : Tokens) (a : ℕ) (us : Tokens) → grammar.count ts a us → lines.◌>>=◌ (one digits_of) (λ digits. exactly (number_of digits)) ts a us
+      back ts a us (t, e, v) = by t e v
+        where
+          by : (t : Token) → ts ≡ t ∷ us → grammar.count_of t ≡ Some a → lines.◌>>=◌ (one digits_of) (λ digits. exactly (number_of digits)) ts a us
+          by (token.Word w) e v = cc
+          by (token.Quoted q) e v = cc
+          by (token.Sign s) e v = cc
+          by (token.Number d) e v = (d, us, (token.Number d, e, refl), (v, refl))
+          by (token.Text x) e v = cc
+          by (token.Param d) e v = cc
+          by (token.Backslash l) e v = cc
+
+  pub agrees-integer : Agrees (Unit {0}) n numbers.integer grammar.integer 1 numeral_heads nothing
+  unfolding numbers.integer grammar.integer
+  agrees-integer = agrees-flag (agrees-test signed_count (omega arith) (tests-sign sign.Minus) (behind_sign true) (behind_sign false) refl)
+    where
+      signed_count : Bool → Parser ℤ
+      signed_count negative = numbers.count >>= (λ k. pure (signed negative k))
+
+      behind_sign : (negative : Bool) → Agrees (Unit {0}) n (signed_count negative) (lines.◌>>=◌ grammar.count (λ k. gives (signed negative k))) 1 (Head.number ∷ []) nothing
+      behind_sign negative = agrees-bind agrees-count (λ k. agrees-pure (signed negative k) nothing) refl
+
+abbrev bar_integer : Barred
+bar_integer = record { words = []; signs = sign.Minus ∷ []; names = false; numbers = true; strings = false; params = false }
+
+-- the tokens that could go on with a motion
+abbrev pub bar_motion : Barred
+bar_motion = record { words = codes "all" ∷ []; signs = sign.Minus ∷ []; names = false; numbers = true; strings = false; params = false }
+
+integer-seen : (ts : Tokens) → begins numeral_heads ts ≡ true → begins_integer ts ≡ true
+unfolding begins_integer
+integer-seen [] e = cc
+integer-seen (token.Word w ∷ ts) e = cc
+integer-seen (token.Quoted q ∷ ts) e = cc
+integer-seen (token.Sign sign.Minus ∷ ts) e = refl
+integer-seen (token.Sign s ∷ ts) e = cc
+integer-seen (token.Number d ∷ ts) e = refl
+integer-seen (token.Text x ∷ ts) e = cc
+integer-seen (token.Param d ∷ ts) e = cc
+integer-seen (token.Backslash l ∷ ts) e = cc
+
+no-integer : (ts : Tokens) → clear bar_integer ts ≡ true → begins_integer ts ≡ false
+unfolding begins_integer
+no-integer [] c = refl
+no-integer (token.Word w ∷ ts) c = refl
+no-integer (token.Quoted q ∷ ts) c = refl
+no-integer (token.Sign sign.Minus ∷ ts) c = cc
+no-integer (token.Sign s ∷ ts) c = refl
+no-integer (token.Number d ∷ ts) c = cc
+no-integer (token.Text x ∷ ts) c = refl
+no-integer (token.Param d ∷ ts) c = refl
+no-integer (token.Backslash l ∷ ts) c = refl
+
+-- an integer comes next
+seen : {B : Type 0} (f : ℤ → B) (ts : Tokens) (b : B) (us : Tokens) → (lines.◌<$>◌ f grammar.integer) ts b us → begins_integer ts ≡ true
+seen f ts b us (a, middle, front, same) = integer-seen ts ((agrees-integer {n = 0}).starts ts a middle front (clear-nothing middle))
+
+-- ---- directions
+
+-- what stands behind a direction
+abbrev directed : Direction → Line Motion
+directed direction.Next = gives moves.Next
+directed direction.Prior = gives moves.Prior
+directed direction.First = gives moves.First
+directed direction.Last = gives moves.Last
+directed direction.Absolute = lines.◌<$>◌ moves.Absolute grammar.integer
+directed direction.Relative = lines.◌<$>◌ moves.Relative grammar.integer
+directed direction.All = gives moves.All
+directed direction.Forward = lines.◌or◌ (lines.◌>>◌ (key (codes "all")) (gives moves.ForwardAll)) (lines.◌<$>◌ moves.Forward (maybe grammar.integer))
+directed direction.Backward = lines.◌or◌ (lines.◌>>◌ (key (codes "all")) (gives moves.BackwardAll)) (lines.◌<$>◌ moves.Backward (maybe grammar.integer))
+
+abbrev pub direction_heads : List Head
+direction_heads =
+    Head.word (codes "next") ∷ Head.word (codes "prior") ∷ Head.word (codes "first") ∷ Head.word (codes "last") ∷ Head.word (codes "absolute")
+    ∷ Head.word (codes "relative") ∷ Head.word (codes "all") ∷ Head.word (codes "forward") ∷ Head.word (codes "backward") ∷ []
+
+abbrev bar_directions : Barred
+bar_directions = record {
+  words = codes "next" ∷ codes "prior" ∷ codes "first" ∷ codes "last" ∷ codes "absolute" ∷ codes "relative" ∷ codes "all" ∷ codes "forward" ∷ codes "backward" ∷ [];
+  signs = [];
+  names = false;
+  numbers = false;
+  strings = false;
+  params = false;
+}
+
+-- the word is this one, and stands for what is found; or it stands for what the others do
+pick : (w v : Text) (found d : Direction) (rest : Option Direction) → cond (bytes_eq w v) (Some found) rest ≡ Some d → ((w ≡ v) × (d ≡ found)) ⊎ (rest ≡ Some d)
+pick w v found d rest e = by (bytes_eq w v) refl e
+  where
+    by : (b : Bool) → bytes_eq w v ≡ b → cond b (Some found) rest ≡ Some d → ((w ≡ v) × (d ≡ found)) ⊎ (rest ≡ Some d)
+    by true q e = let same : d ≡ found = cc in inl ((bytes_eq-Decides w v).0 q, same)
+    by false q e = inr e
+
+any-here : (a b : Bool) → a ≡ true → (a || b) ≡ true
+any-here true b e = refl
+any-here false b e = cc
+
+any-there : (a b : Bool) → b ≡ true → (a || b) ≡ true
+any-there true b e = refl
+any-there false b e = e
+
+stands-direction : Stands direction_of direction_heads bar_directions
+stands-direction = record { shows = shows; none = none }
+  where
+    shows-word : (a b c d e f g h i : Bool) (found : Direction)
+        → cond a (Some direction.Next) (cond b (Some direction.Prior) (cond c (Some direction.First) (cond d (Some direction.Last) (cond e (Some direction.Absolute) (cond f (Some direction.Relative)
+        (cond g (Some direction.All) (cond h (Some direction.Forward) (cond i (Some direction.Backward) None)))))))) ≡ Some found
+        → (a || (b || (c || (d || (e || (f || (g || (h || (i || false))))))))) ≡ true
+    shows-word true b c d e f g h i found v = refl
+    shows-word false true c d e f g h i found v = refl
+    shows-word false false true d e f g h i found v = refl
+    shows-word false false false true e f g h i found v = refl
+    shows-word false false false false true f g h i found v = refl
+    shows-word false false false false false true g h i found v = refl
+    shows-word false false false false false false true h i found v = refl
+    shows-word false false false false false false false true i found v = refl
+    shows-word false false false false false false false false true found v = refl
+    shows-word false false false false false false false false false found v = cc
+
+    shows : (t : Token) (found : Direction) → direction_of t ≡ Some found → list_any (λ head. is head t) direction_heads ≡ true
+    shows (token.Word w) found v = shows-word (bytes_eq w (codes "next")) (bytes_eq w (codes "prior")) (bytes_eq w (codes "first")) (bytes_eq w (codes "last")) (bytes_eq w (codes "absolute"))
+        (bytes_eq w (codes "relative")) (bytes_eq w (codes "all")) (bytes_eq w (codes "forward")) (bytes_eq w (codes "backward")) found v
+    shows (token.Quoted q) found v = cc
+    shows (token.Sign s) found v = cc
+    shows (token.Number d) found v = cc
+    shows (token.Text x) found v = cc
+    shows (token.Param d) found v = cc
+    shows (token.Backslash l) found v = cc
+
+    none-word : (a b c d e f g h i : Bool) → ((a || (b || (c || (d || (e || (f || (g || (h || (i || false))))))))) || false) ≡ false
+        → cond {A = Option Direction} a (Some direction.Next) (cond b (Some direction.Prior) (cond c (Some direction.First) (cond d (Some direction.Last) (cond e (Some direction.Absolute) (cond f (Some direction.Relative)
+        (cond g (Some direction.All) (cond h (Some direction.Forward) (cond i (Some direction.Backward) None)))))))) ≡ None
+    none-word true b c d e f g h i v = cc
+    none-word false true c d e f g h i v = cc
+    none-word false false true d e f g h i v = cc
+    none-word false false false true e f g h i v = cc
+    none-word false false false false true f g h i v = cc
+    none-word false false false false false true g h i v = cc
+    none-word false false false false false false true h i v = cc
+    none-word false false false false false false false true i v = cc
+    none-word false false false false false false false false true v = cc
+    none-word false false false false false false false false false v = refl
+
+    none : (t : Token) → bars bar_directions t ≡ false → direction_of t ≡ None
+    none (token.Word w) b = none-word (bytes_eq w (codes "next")) (bytes_eq w (codes "prior")) (bytes_eq w (codes "first")) (bytes_eq w (codes "last")) (bytes_eq w (codes "absolute"))
+        (bytes_eq w (codes "relative")) (bytes_eq w (codes "all")) (bytes_eq w (codes "forward")) (bytes_eq w (codes "backward")) b
+    none (token.Quoted q) b = refl
+    none (token.Sign s) b = refl
+    none (token.Number d) b = refl
+    none (token.Text x) b = refl
+    none (token.Param d) b = refl
+    none (token.Backslash l) b = refl
+
+-- the tokens with which a motion begins, or what follows where it is left out
+abbrev pub motion_heads : List Head
+motion_heads = numeral_heads ++ direction_heads ++ Head.others bar_motion ∷ []
+
+abbrev direction_or_next : Line Motion
+direction_or_next = lines.◌or◌ (lines.◌>>=◌ (one direction_of) directed) (lines.◌>>◌ (unless direction_of) (gives moves.Next))
+
+-- the line in the order in which it is read
+abbrev ordered : Line Motion
+ordered = lines.◌or◌ (lines.◌<$>◌ moves.Count grammar.integer) direction_or_next
+
+there : (ts : Tokens) (a : Motion) (us : Tokens) → ordered ts a us → grammar.optional_motion ts a us
+unfolding grammar.motion
+there ts a us (inl count) = inl (inr (inr (inr (inr (inr (inr (inl count)))))))
+there ts a us (inr (inr none)) = inr none
+there ts a us (inr (inl (d, middle, (t, e, v), rest))) = by t e v
+  where
+    at : (w v : Text) (found : Direction) → ts ≡ token.Word w ∷ middle → (w ≡ v) × (d ≡ found) → (lines.◌>>◌ (key v) (directed found)) ts a us
+    at w v found e same = (tt, middle, subst (λ x. ts ≡ token.Word x ∷ middle) same.0 e, subst (λ x. directed x middle a us) same.1 rest)
+
+    by : (t : Token) → ts ≡ t ∷ middle → direction_of t ≡ Some d → grammar.optional_motion ts a us
+    by (token.Word w) e v = inl (⊎_elim (λ x. inl (at w (codes "next") direction.Next e x)) (λ v.
+        ⊎_elim (λ x. inr (inl (at w (codes "prior") direction.Prior e x))) (λ v.
+        ⊎_elim (λ x. inr (inr (inl (at w (codes "first") direction.First e x)))) (λ v.
+        ⊎_elim (λ x. inr (inr (inr (inl (at w (codes "last") direction.Last e x))))) (λ v.
+        ⊎_elim (λ x. inr (inr (inr (inr (inl (at w (codes "absolute") direction.Absolute e x)))))) (λ v.
+        ⊎_elim (λ x. inr (inr (inr (inr (inr (inl (at w (codes "relative") direction.Relative e x))))))) (λ v.
+        ⊎_elim (λ x. inr (inr (inr (inr (inr (inr (inr (inl (at w (codes "all") direction.All e x))))))))) (λ v.
+        ⊎_elim (λ x. inr (inr (inr (inr (inr (inr (inr (inr (inl (at w (codes "forward") direction.Forward e x)))))))))) (λ v.
+        ⊎_elim (λ x. inr (inr (inr (inr (inr (inr (inr (inr (inr (at w (codes "backward") direction.Backward e x)))))))))) (λ v. cc)
+        (pick w (codes "backward") direction.Backward d _ v)) (pick w (codes "forward") direction.Forward d _ v)) (pick w (codes "all") direction.All d _ v)) (pick w (codes "relative") direction.Relative d _ v))
+        (pick w (codes "absolute") direction.Absolute d _ v)) (pick w (codes "last") direction.Last d _ v)) (pick w (codes "first") direction.First d _ v)) (pick w (codes "prior") direction.Prior d _ v))
+        (pick w (codes "next") direction.Next d _ v))
+    by (token.Quoted q) e v = cc
+    by (token.Sign s) e v = cc
+    by (token.Number x) e v = cc
+    by (token.Text x) e v = cc
+    by (token.Param x) e v = cc
+    by (token.Backslash l) e v = cc
+
+back : (ts : Tokens) (a : Motion) (us : Tokens) → grammar.optional_motion ts a us → ordered ts a us
+unfolding grammar.motion
+back ts a us (inr none) = inr (inr none)
+back ts a us (inl (inl (u, middle, e, rest))) = inr (inl (direction.Next, middle, (token.Word (codes "next"), e, refl), rest))
+back ts a us (inl (inr (inl (u, middle, e, rest)))) = inr (inl (direction.Prior, middle, (token.Word (codes "prior"), e, refl), rest))
+back ts a us (inl (inr (inr (inl (u, middle, e, rest))))) = inr (inl (direction.First, middle, (token.Word (codes "first"), e, refl), rest))
+back ts a us (inl (inr (inr (inr (inl (u, middle, e, rest)))))) = inr (inl (direction.Last, middle, (token.Word (codes "last"), e, refl), rest))
+back ts a us (inl (inr (inr (inr (inr (inl (u, middle, e, rest))))))) = inr (inl (direction.Absolute, middle, (token.Word (codes "absolute"), e, refl), rest))
+back ts a us (inl (inr (inr (inr (inr (inr (inl (u, middle, e, rest)))))))) = inr (inl (direction.Relative, middle, (token.Word (codes "relative"), e, refl), rest))
+back ts a us (inl (inr (inr (inr (inr (inr (inr (inl count)))))))) = inl count
+back ts a us (inl (inr (inr (inr (inr (inr (inr (inr (inl (u, middle, e, rest)))))))))) = inr (inl (direction.All, middle, (token.Word (codes "all"), e, refl), rest))
+back ts a us (inl (inr (inr (inr (inr (inr (inr (inr (inr (inl (u, middle, e, rest))))))))))) = inr (inl (direction.Forward, middle, (token.Word (codes "forward"), e, refl), rest))
+back ts a us (inl (inr (inr (inr (inr (inr (inr (inr (inr (inr (u, middle, e, rest))))))))))) = inr (inl (direction.Backward, middle, (token.Word (codes "backward"), e, refl), rest))
+
+-- a value that is looked at again
+then-same : {A B C : Type 0} (o : Outcome A) (g : A → B) (h : B → Parser C) → and_then o (λ a. h (g a)) ≡ and_then (and_then o (λ a. pure (g a))) h
+then-same (Some p) g h = refl
+then-same None g h = refl
+
+module _ {n : ℕ} where
+  pub agrees-optional_integer : Agrees (Unit {0}) n numbers.optional_integer (maybe grammar.integer) 0 (numeral_heads ++ Head.others bar_motion ∷ []) bar_motion
+  unfolding numbers.optional_integer
+  agrees-optional_integer = agrees-looking {n = n} (seen Some) unseen (agrees-map Some (agrees-wider bar_motion refl agrees-integer)) (agrees-pure None bar_motion)
+    where
+      unseen : (ts : Tokens) (o : Option ℤ) (us : Tokens) → gives None ts o us → clear bar_motion us ≡ true → begins_integer ts ≡ false
+      unseen ts o us same ends = no-integer ts (begins-clear bar_integer (Head.others bar_motion ∷ []) ts refl (clear-begins bar_motion ts (subst (λ vs. clear bar_motion vs ≡ true) same.1 ends)))
+
+  agrees-directed : (d : Direction) → Agrees (Unit {0}) n (spec.directed d) (directed d) 0 (Head.others nothing ∷ []) bar_motion
+  unfolding spec.forward spec.backward
+  agrees-directed direction.Next = agrees-anything (agrees-pure moves.Next bar_motion)
+  agrees-directed direction.Prior = agrees-anything (agrees-pure moves.Prior bar_motion)
+  agrees-directed direction.First = agrees-anything (agrees-pure moves.First bar_motion)
+  agrees-directed direction.Last = agrees-anything (agrees-pure moves.Last bar_motion)
+  agrees-directed direction.Absolute = agrees-anything (agrees-map moves.Absolute (agrees-wider bar_motion refl agrees-integer))
+  agrees-directed direction.Relative = agrees-anything (agrees-map moves.Relative (agrees-wider bar_motion refl agrees-integer))
+  agrees-directed direction.All = agrees-anything (agrees-pure moves.All bar_motion)
+  agrees-directed direction.Forward = agrees-anything (agrees-word (codes "all") (agrees-pure moves.ForwardAll bar_motion) (agrees-map moves.Forward agrees-optional_integer) refl)
+  agrees-directed direction.Backward = agrees-anything (agrees-word (codes "all") (agrees-pure moves.BackwardAll bar_motion) (agrees-map moves.Backward agrees-optional_integer) refl)
+
+  agrees-direction_or_next : Agrees (Unit {0}) n (taken direction_of >>= spec.directed_or_next) direction_or_next 0 (direction_heads ++ Head.others bar_motion ∷ []) bar_motion
+  agrees-direction_or_next = agrees-unless spec.directed_or_next stands-direction agrees-directed (agrees-pure moves.Next bar_motion)
+
+  agrees-optional_motion : Agrees (Unit {0}) n spec.optional_motion grammar.optional_motion 0 motion_heads bar_motion
+  unfolding spec.optional_motion numbers.optional_integer
+  agrees-optional_motion = agrees-same there back (agrees-read same_so (agrees-looking {n = n} (seen moves.Count) unseen (agrees-map moves.Count (agrees-wider bar_motion refl agrees-integer)) agrees-direction_or_next))
+    where
+      unseen : (ts : Tokens) (a : Motion) (us : Tokens) → direction_or_next ts a us → clear bar_motion us ≡ true → begins_integer ts ≡ false
+      unseen ts a us spelt ends = no-integer ts (begins-clear bar_integer (direction_heads ++ Head.others bar_motion ∷ []) ts refl (agrees-direction_or_next.starts ts a us spelt ends))
+
+      by : (found : Bool) (ts : Tokens) → cond {A = Parser Motion} found (moves.Count <$> numbers.integer) (taken direction_of >>= spec.directed_or_next) ts
+          ≡ and_then (cond {A = Parser (Option ℤ)} found (Some <$> numbers.integer) (pure None) ts) spec.counted_or_directed
+      by true ts = then-same (numbers.integer ts) Some spec.counted_or_directed
+      by false ts = refl
+
+      same_so : (ts : Tokens) → cond {A = Parser Motion} (begins_integer ts) (moves.Count <$> numbers.integer) (taken direction_of >>= spec.directed_or_next) ts ≡ spec.optional_motion ts
+      same_so ts = by (begins_integer ts) ts
+
+  agrees-fetch_tree : Agrees (Unit {0}) n cursors.fetch_tree grammar.fetch_tree 1 motion_heads nothing
+  unfolding cursors.fetch_tree grammar.fetch_tree is_reserved
+  agrees-fetch_tree = agrees-bind agrees-optional_motion (λ motion. agrees-either (codes "from") (codes "in") refl refl (agrees-bind agrees-name (λ cursor. agrees-pure (record { motion = motion; cursor = cursor }) nothing) refl)) refl
+
+  pub agrees-fetch : Agrees (Unit {0}) n cursors.fetch grammar.fetch 1 motion_heads nothing
+  unfolding cursors.fetch grammar.fetch
+  agrees-fetch = agrees-map command.Fetch agrees-fetch_tree
+
+  pub agrees-move_cursor : Agrees (Unit {0}) n cursors.move_cursor grammar.move_cursor 1 motion_heads nothing
+  unfolding cursors.move_cursor grammar.move_cursor
+  agrees-move_cursor = agrees-map command.Move agrees-fetch_tree
+
+  pub agrees-close : Agrees (Unit {0}) n cursors.close grammar.close 1 (Head.word (codes "all") ∷ Head.name ∷ []) nothing
+  unfolding cursors.close grammar.close is_reserved
+  agrees-close = agrees-word (codes "all") (agrees-pure command.CloseAll nothing) (agrees-map command.Close agrees-name) refl

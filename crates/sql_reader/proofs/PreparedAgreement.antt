@@ -1,0 +1,163 @@
+-- PREPARE, EXECUTE, EXPLAIN, DEALLOCATE and DISCARD are read exactly where they are spelt.
+use Rattle.std.proofs.Common.{◌≡◌, inl, inr, ℕ, Bool, true, false, cond, ◌||◌, List, [], ◌∷◌, drop, codes, refl, ap, subst, ◌∙◌, arith}
+use Rattle.std.specs.Prelude.{is_some}
+use Rattle.std.specs.Str.{bytes_eq}
+use Rattle.sql_tokens.specs.declared.token.Token.TheVariants as token
+use Rattle.sql_tokens.specs.declared.token.Sign.TheVariants as sign
+use Rattle.sql_tree.specs.declared.command.Command.{Command}
+use Rattle.sql_tree.specs.declared.command.Command.TheVariants as command
+use Rattle.sql_expr.specs.Reading.{Tokens, Parser, ◌>>=◌, ◌<$>◌, pure, refuse, eat_word, sees_word}
+use Rattle.sql_expr.specs.Lines.{Line, nowhere, gives, one, key}
+use Rattle.sql_expr.specs.Lines as lines
+use Rattle.sql_expr.specs.Names.{is_reserved, name_of, sees_name}
+use Rattle.sql_expr.specs.Names as names
+use Rattle.sql_expr.specs.Grammar as expression_grammar
+use Rattle.sql_reader_query.specs.Names.{optional_names}
+use Rattle.sql_reader_session.specs.Prepared as spec
+use Rattle.sql_reader.specs.ChangeGrammar.{statement}
+use Rattle.sql_reader.specs.NameGrammar as name_grammar
+use Rattle.sql_reader.specs.PreparedGrammar as grammar
+use Rattle.sql_reader.specs.QueryGrammar.{any}
+use Rattle.sql_expr.proofs.Heads.{Barred, Head, clear, begins, begins-clear, clear-begins}
+use Rattle.sql_expr.proofs.Agreement.{Agrees, nothing, bar_word, bar_sign, sees-no-word, tests-word, agrees-pure, agrees-refuse, agrees-bind, agrees-same, agrees-wider, agrees-test, agrees-word, agrees-sign, agrees-expect_word, agrees-expect_sign}
+use Rattle.sql_expr.proofs.ListAgreement.{agrees-list}
+use Rattle.sql_expr.proofs.ExpressionAgreement.{list_tail, agrees-name, agrees-expression}
+use Rattle.sql_expr.proofs.TokenKinds.{bar_names}
+use Rattle.sql_reader.proofs.NameAgreement.{agrees-enclosed_names}
+use Rattle.sql_reader.proofs.StatementAgreement.{statement_tail, agrees-statement}
+use Rattle.sql_reader.proofs.KeywordAgreement.{agrees-map, agrees-bracket, sees_before, neither, no-name, agrees-keyword}
+
+-- ---- DEALLOCATE
+
+-- what stands behind [PREPARE]
+abbrev target_read : Parser Command
+target_read = eat_word (codes "all") >>= (λ all. cond all (pure command.DeallocateAll) (command.Deallocate <$> names.name))
+
+abbrev target : Line Command
+target = lines.◌or◌ (lines.◌>>◌ (key (codes "all")) (gives command.DeallocateAll)) (lines.◌<$>◌ command.Deallocate expression_grammar.name)
+
+abbrev target_heads : List Head
+target_heads = Head.word (codes "all") ∷ Head.name ∷ []
+
+abbrev pub bar_targets : Barred
+bar_targets = record { words = codes "all" ∷ []; signs = []; names = true; numbers = false; strings = false; params = false }
+
+abbrev follows : Tokens → Bool
+follows us = sees_name us || sees_word (codes "all") us
+
+follows-target : (us : Tokens) → begins target_heads us ≡ true → follows us ≡ true
+unfolding sees_name sees_word
+follows-target [] e = cc
+follows-target (token.Word w ∷ us) e = by (bytes_eq w (codes "all")) (is_some (name_of (token.Word w))) e
+  where
+    by : (a b : Bool) → (a || (b || false)) ≡ true → (b || a) ≡ true
+    by true true e = refl
+    by true false e = refl
+    by false true e = refl
+    by false false e = cc
+follows-target (token.Quoted q ∷ us) e = refl
+follows-target (token.Sign s ∷ us) e = cc
+follows-target (token.Number d ∷ us) e = cc
+follows-target (token.Text x ∷ us) e = cc
+follows-target (token.Param d ∷ us) e = cc
+follows-target (token.Backslash l ∷ us) e = cc
+
+no-target : (us : Tokens) → clear bar_targets us ≡ true → follows us ≡ false
+no-target us c = by (sees_name us) (sees_word (codes "all") us) (no-name us (begins-clear bar_names (Head.others bar_targets ∷ []) us refl free)) (sees-no-word (codes "all") us (begins-clear (bar_word (codes "all")) (Head.others bar_targets ∷ []) us refl free))
+  where
+    free : begins (Head.others bar_targets ∷ []) us ≡ true
+    free = clear-begins bar_targets us c
+
+    by : (a b : Bool) → a ≡ false → b ≡ false → (a || b) ≡ false
+    by true b e k = cc
+    by false b e k = k
+
+-- PREPARE is the name where neither another name nor ALL follows
+no-prepare : (ts : Tokens) (c : Command) (us : Tokens) → target ts c us → clear bar_targets us ≡ true → sees_before (codes "prepare") follows ts ≡ false
+unfolding sees_word
+no-prepare ts c us (inl (u, middle, e, same)) ends = ap (sees_before (codes "prepare") follows) e
+no-prepare ts c us (inr (name, middle, (t, e, v), same)) ends =
+    neither _ _ (ap (λ vs. follows (drop 1 vs)) e ∙ no-target middle (subst (λ vs. clear bar_targets vs ≡ true) same.1 ends))
+
+abbrev pub explain_heads : List Head
+explain_heads = Head.word (codes "execute") ∷ Head.word (codes "select") ∷ Head.word (codes "insert") ∷ Head.word (codes "update") ∷ Head.word (codes "delete") ∷ []
+
+module _ {n : ℕ} where
+  agrees-target : Agrees (Unit {0}) n target_read target 1 target_heads bar_targets
+  unfolding is_reserved
+  agrees-target = agrees-word (codes "all") (agrees-pure command.DeallocateAll bar_targets) (agrees-map command.Deallocate (agrees-wider bar_targets refl agrees-name)) refl
+
+  pub agrees-deallocate : Agrees (Unit {0}) n spec.deallocate grammar.deallocate 1 (Head.word (codes "prepare") ∷ target_heads) bar_targets
+  unfolding spec.deallocate grammar.deallocate
+  agrees-deallocate = agrees-bracket (agrees-keyword (codes "prepare") follows (λ found. target_read) follows-target no-prepare agrees-target agrees-target)
+
+  pub agrees-discard : Agrees (Unit {0}) n spec.discard grammar.discard 1 (Head.word (codes "plans") ∷ Head.word (codes "temp") ∷ Head.word (codes "temporary") ∷ []) nothing
+  unfolding spec.discard grammar.discard
+  agrees-discard = agrees-same there back (agrees-word (codes "plans") (agrees-pure command.DiscardPlans nothing)
+      (agrees-test (λ found. cond found (pure true) (eat_word (codes "temporary")) >>= either) (omega arith) (tests-word (codes "temp")) temp (agrees-word (codes "temporary") temp (agrees-refuse 1 [] nothing) refl) refl) refl)
+    where
+      either : Bool → Parser Command
+      either found = cond found (pure command.DiscardTemp) refuse
+
+      temp : Agrees (Unit {0}) n (pure command.DiscardTemp) (gives command.DiscardTemp) 0 (Head.others nothing ∷ []) nothing
+      temp = agrees-pure command.DiscardTemp nothing
+
+      ordered : Line Command
+      ordered = lines.◌or◌ (lines.◌>>◌ (key (codes "plans")) (gives command.DiscardPlans)) (lines.◌or◌ (lines.◌>>◌ (key (codes "temp")) (gives command.DiscardTemp)) (lines.◌or◌ (lines.◌>>◌ (key (codes "temporary")) (gives command.DiscardTemp)) nowhere))
+
+      there : (ts : Tokens) (c : Command) (us : Tokens) → ordered ts c us → grammar.discard ts c us
+      there ts c us (inl plans) = inl plans
+      there ts c us (inr (inl (u, middle, e, rest))) = inr (u, middle, inl e, rest)
+      there ts c us (inr (inr (inl (u, middle, e, rest)))) = inr (u, middle, inr e, rest)
+      there ts c us (inr (inr (inr none))) = absurd none
+
+      back : (ts : Tokens) (c : Command) (us : Tokens) → grammar.discard ts c us → ordered ts c us
+      back ts c us (inl plans) = inl plans
+      back ts c us (inr (u, middle, inl e, rest)) = inr (inl (u, middle, e, rest))
+      back ts c us (inr (u, middle, inr e, rest)) = inr (inr (inl (u, middle, e, rest)))
+
+  -- ---- EXECUTE
+
+  agrees-arguments : Agrees (Unit {0}) n spec.arguments (any grammar.arguments) 0 (Head.sign sign.LeftParen ∷ Head.others (bar_sign sign.LeftParen) ∷ []) (bar_sign sign.LeftParen)
+  unfolding spec.arguments spec.expressions grammar.arguments
+  agrees-arguments = agrees-sign sign.LeftParen (agrees-bind (agrees-list list_tail agrees-expression refl refl) (λ found.
+      agrees-bind (agrees-expect_sign sign.RightParen) (λ u. agrees-pure found (bar_sign sign.LeftParen)) refl) refl) (agrees-pure [] (bar_sign sign.LeftParen)) refl
+
+  pub agrees-execute_tree : Agrees (Unit {0}) n spec.execute_tree grammar.execute_tree 1 (Head.name ∷ []) (bar_sign sign.LeftParen)
+  unfolding spec.execute_tree grammar.execute_tree
+  agrees-execute_tree = agrees-bind agrees-name (λ name. agrees-map (λ found. record { name = name; arguments = found }) agrees-arguments) refl
+
+  pub agrees-execute : Agrees (Unit {0}) n spec.execute grammar.execute 1 (Head.name ∷ []) (bar_sign sign.LeftParen)
+  unfolding spec.execute grammar.execute
+  agrees-execute = agrees-map command.Execute agrees-execute_tree
+
+  -- ---- PREPARE and EXPLAIN
+
+  -- ["(" names ")"]
+  agrees-types : Agrees (Unit {0}) n optional_names (any name_grammar.parenthesized_names) 0 (Head.sign sign.LeftParen ∷ Head.others (bar_sign sign.LeftParen) ∷ []) (bar_sign sign.LeftParen)
+  unfolding optional_names name_grammar.parenthesized_names
+  agrees-types = agrees-sign sign.LeftParen (agrees-wider (bar_sign sign.LeftParen) refl agrees-enclosed_names) (agrees-pure [] (bar_sign sign.LeftParen)) refl
+
+  pub agrees-prepare_tree : Agrees (Unit {0}) n spec.prepare_tree grammar.prepare_tree 3 (Head.name ∷ []) statement_tail
+  unfolding spec.prepare_tree grammar.prepare_tree
+  agrees-prepare_tree = agrees-bind agrees-name (λ name. agrees-bind agrees-types (λ types. agrees-bind (agrees-expect_word (codes "as")) (λ u.
+      agrees-map (λ found. record { name = name; types = types; statement = found }) agrees-statement) refl) refl) refl
+
+  pub agrees-prepare : Agrees (Unit {0}) n spec.prepare grammar.prepare 3 (Head.name ∷ []) statement_tail
+  unfolding spec.prepare grammar.prepare
+  agrees-prepare = agrees-map command.Prepare agrees-prepare_tree
+
+  pub agrees-explain : Agrees (Unit {0}) n spec.explain grammar.explain 1 explain_heads statement_tail
+  unfolding spec.explain grammar.explain
+  agrees-explain = agrees-same there back (agrees-word (codes "execute") (agrees-map command.ExplainExecute (agrees-wider statement_tail refl agrees-execute_tree)) (agrees-map command.Explain agrees-statement) refl)
+    where
+      ordered : Line Command
+      ordered = lines.◌or◌ (lines.◌>>◌ (key (codes "execute")) (lines.◌<$>◌ command.ExplainExecute grammar.execute_tree)) (lines.◌<$>◌ command.Explain statement)
+
+      there : (ts : Tokens) (c : Command) (us : Tokens) → ordered ts c us → grammar.explain ts c us
+      there ts c us (inl executed) = inr executed
+      there ts c us (inr stated) = inl stated
+
+      back : (ts : Tokens) (c : Command) (us : Tokens) → grammar.explain ts c us → ordered ts c us
+      back ts c us (inl stated) = inr stated
+      back ts c us (inr executed) = inl executed

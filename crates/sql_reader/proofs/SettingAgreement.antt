@@ -1,0 +1,222 @@
+-- Settings are read exactly where they are spelt.
+use Rattle.std.proofs.Common.{◌≡◌, inl, inr, ℕ, Bool, true, false, cond, not, ◌||◌, List, [], ◌∷◌, ◌++◌, Option, Some, None, codes, refl, sym, ap, subst, ◌∙◌, arith}
+use Rattle.std.specs.Prelude.{is_some}
+use Rattle.std.specs.List.{list_any}
+use Rattle.std.specs.Str.{bytes_eq}
+use Rattle.std.proofs.lemmas.Slice.Eq.{bytes_eq-Decides}
+use Rattle.q_base.specs.declared.settings.Setting.{Setting}
+use Rattle.q_base.specs.declared.settings.SetValue.TheVariants as value
+use Rattle.sql_tokens.specs.declared.token.Token.{Token}
+use Rattle.sql_tokens.specs.declared.token.Token.TheVariants as token
+use Rattle.sql_tokens.specs.declared.token.Sign.TheVariants as sign
+use Rattle.sql_tree.specs.declared.command.Command.{Command}
+use Rattle.sql_tree.specs.declared.command.Command.TheVariants as command
+use Rattle.sql_expr.specs.Reading.{Text, Tokens, Parser, ◌>>=◌, pure, sees_word}
+use Rattle.sql_expr.specs.Lines.{Line, gives, one, key, mark}
+use Rattle.sql_expr.specs.Lines as lines
+use Rattle.sql_expr.specs.Names.{is_reserved, name_of, sees_name}
+use Rattle.sql_expr.specs.Names as names
+use Rattle.sql_expr.specs.Grammar as expression
+use Rattle.sql_reader_session.specs.Keywords.{eat_before_name}
+use Rattle.sql_reader_session.specs.Settings.{text_of, is_setting_word}
+use Rattle.sql_reader_session.specs.Settings as spec
+use Rattle.sql_reader.specs.BlockGrammar as grammar
+use Rattle.sql_reader.specs.QueryGrammar.{numeral}
+use Rattle.sql_expr.proofs.Heads.{Barred, Head, bars, is, clear, begins-clear}
+use Rattle.sql_expr.proofs.Agreement.{Agrees, Stands, nothing, bar_sign, agrees-pure, agrees-bind, agrees-same, agrees-word, agrees-taken, agrees-expect_sign}
+use Rattle.sql_expr.proofs.ListAgreement.{agrees-list}
+use Rattle.sql_expr.proofs.ExpressionAgreement.{agrees-name}
+use Rattle.sql_expr.proofs.TokenKinds.{bar_names}
+use Rattle.sql_reader.proofs.LimitsAgreement.{agrees-numeral}
+use Rattle.sql_reader.proofs.KeywordAgreement.{sees_before, agrees-keyword, name-seen, no-keyword}
+
+-- the tokens that stand for the text of a setting
+abbrev pub text_heads : List Head
+text_heads = Head.word (codes "on") ∷ Head.word (codes "true") ∷ Head.word (codes "false") ∷ Head.name ∷ Head.string ∷ []
+
+abbrev pub bar_texts : Barred
+bar_texts = record { words = codes "on" ∷ codes "true" ∷ codes "false" ∷ []; signs = []; names = true; numbers = false; strings = true; params = false }
+
+stands-text : Stands text_of text_heads bar_texts
+stands-text = record { shows = shows; none = none }
+  where
+    shows-word : (on truth falsity reserved : Bool) (w a : Text) → cond (on || truth || falsity || not reserved) (Some w) None ≡ Some a
+        → (on || (truth || (falsity || (is_some (cond reserved None (Some w)) || (false || false))))) ≡ true
+    shows-word true truth falsity reserved w a e = refl
+    shows-word false true falsity reserved w a e = refl
+    shows-word false false true reserved w a e = refl
+    shows-word false false false true w a e = cc
+    shows-word false false false false w a e = refl
+
+    shows : (t : Token) (a : Text) → text_of t ≡ Some a → list_any (λ head. is head t) text_heads ≡ true
+    shows (token.Word w) a e = shows-word (bytes_eq w (codes "on")) (bytes_eq w (codes "true")) (bytes_eq w (codes "false")) (is_reserved w) w a e
+    shows (token.Quoted q) a e = refl
+    shows (token.Sign s) a e = cc
+    shows (token.Number d) a e = cc
+    shows (token.Text x) a e = refl
+    shows (token.Param d) a e = cc
+    shows (token.Backslash l) a e = cc
+
+    none-word : (on truth falsity reserved : Bool) (w : Text) → ((on || (truth || (falsity || false))) || not reserved) ≡ false
+        → cond {A = Option Text} (on || truth || falsity || not reserved) (Some w) None ≡ None
+    none-word true truth falsity reserved w b = cc
+    none-word false true falsity reserved w b = cc
+    none-word false false true reserved w b = cc
+    none-word false false false true w b = refl
+    none-word false false false false w b = cc
+
+    none : (t : Token) → bars bar_texts t ≡ false → text_of t ≡ None
+    none (token.Word w) b = none-word (bytes_eq w (codes "on")) (bytes_eq w (codes "true")) (bytes_eq w (codes "false")) (is_reserved w) w b
+    none (token.Quoted q) b = cc
+    none (token.Sign s) b = refl
+    none (token.Number d) b = refl
+    none (token.Text x) b = cc
+    none (token.Param d) b = refl
+    none (token.Backslash l) b = refl
+
+abbrev pub numeral_heads : List Head
+numeral_heads = Head.sign sign.Minus ∷ Head.number ∷ []
+
+-- the line of the texts, by the token that stands for one
+text-there : (ts : Tokens) (a : Text) (us : Tokens) → one text_of ts a us → grammar.setting_text ts a us
+text-there ts a us (t, e, v) = by t e v
+  where
+    by-word : (w : Text) (on truth falsity reserved : Bool) → bytes_eq w (codes "on") ≡ on → bytes_eq w (codes "true") ≡ truth → bytes_eq w (codes "false") ≡ falsity → is_reserved w ≡ reserved
+        → ts ≡ token.Word w ∷ us → cond (on || truth || falsity || not reserved) (Some w) None ≡ Some a → grammar.setting_text ts a us
+    by-word w true truth falsity reserved o t f r e v = let same = (bytes_eq-Decides w (codes "on")).0 o in let value : a ≡ w = cc in inr (inr (inl (tt, us, subst (λ x. ts ≡ token.Word x ∷ us) same e, (value ∙ same, refl))))
+    by-word w false true falsity reserved o t f r e v = let same = (bytes_eq-Decides w (codes "true")).0 t in let value : a ≡ w = cc in inr (inr (inr (inl (tt, us, subst (λ x. ts ≡ token.Word x ∷ us) same e, (value ∙ same, refl)))))
+    by-word w false false true reserved o t f r e v = let same = (bytes_eq-Decides w (codes "false")).0 f in let value : a ≡ w = cc in inr (inr (inr (inr (tt, us, subst (λ x. ts ≡ token.Word x ∷ us) same e, (value ∙ same, refl)))))
+    by-word w false false false true o t f r e v = cc
+    by-word w false false false false o t f r e v = inl (token.Word w, e, ap (λ x. cond {A = Option Text} x None (Some w)) r ∙ v)
+
+    by : (t : Token) → ts ≡ t ∷ us → text_of t ≡ Some a → grammar.setting_text ts a us
+    by (token.Word w) e v = by-word w (bytes_eq w (codes "on")) (bytes_eq w (codes "true")) (bytes_eq w (codes "false")) (is_reserved w) refl refl refl refl e v
+    by (token.Quoted q) e v = inl (token.Quoted q, e, v)
+    by (token.Sign s) e v = cc
+    by (token.Number d) e v = cc
+    by (token.Text x) e v = inr (inl (token.Text x, e, v))
+    by (token.Param d) e v = cc
+    by (token.Backslash l) e v = cc
+
+text-back : (ts : Tokens) (a : Text) (us : Tokens) → grammar.setting_text ts a us → one text_of ts a us
+text-back ts a us (inl (t, e, v)) = (t, e, by t v)
+  where
+    free : (on truth falsity reserved : Bool) (w : Text) → cond reserved None (Some w) ≡ Some a → cond (on || truth || falsity || not reserved) (Some w) None ≡ Some a
+    free true truth falsity true w v = cc
+    free false true falsity true w v = cc
+    free false false true true w v = cc
+    free false false false true w v = cc
+    free true truth falsity false w v = v
+    free false true falsity false w v = v
+    free false false true false w v = v
+    free false false false false w v = v
+
+    by : (t : Token) → name_of t ≡ Some a → text_of t ≡ Some a
+    by (token.Word w) v = free (bytes_eq w (codes "on")) (bytes_eq w (codes "true")) (bytes_eq w (codes "false")) (is_reserved w) w v
+    by (token.Quoted q) v = v
+    by (token.Sign s) v = cc
+    by (token.Number d) v = cc
+    by (token.Text x) v = cc
+    by (token.Param d) v = cc
+    by (token.Backslash l) v = cc
+text-back ts a us (inr (inl (t, e, v))) = (t, e, by t v)
+  where
+    by : (t : Token) → grammar.string_of t ≡ Some a → text_of t ≡ Some a
+    by (token.Word w) v = cc
+    by (token.Quoted q) v = cc
+    by (token.Sign s) v = cc
+    by (token.Number d) v = cc
+    by (token.Text x) v = v
+    by (token.Param d) v = cc
+    by (token.Backslash l) v = cc
+text-back ts a us (inr (inr (inl (u, middle, e, same)))) = (token.Word (codes "on"), subst (λ vs. ts ≡ token.Word (codes "on") ∷ vs) (sym same.1) e, ap Some (sym same.0))
+text-back ts a us (inr (inr (inr (inl (u, middle, e, same))))) = (token.Word (codes "true"), subst (λ vs. ts ≡ token.Word (codes "true") ∷ vs) (sym same.1) e, ap Some (sym same.0))
+text-back ts a us (inr (inr (inr (inr (u, middle, e, same))))) = (token.Word (codes "false"), subst (λ vs. ts ≡ token.Word (codes "false") ∷ vs) (sym same.1) e, ap Some (sym same.0))
+
+-- what stands behind the scope of SET, and behind the name
+abbrev valued_read : Bool → Text → Parser Command
+valued_read local n = spec.expect_to >>= (λ u. spec.set_value >>= (λ v. pure (command.Set (record { name = n; local = local; value = v }))))
+
+abbrev valued : Bool → Text → Line Command
+valued local n = lines.◌>>◌ (lines.◌or◌ (key (codes "to")) (mark sign.Equal)) (lines.◌>>=◌ grammar.set_value (λ v. gives (command.Set (record { name = n; local = local; value = v }))))
+
+abbrev scoped_read : Bool → Parser Command
+scoped_read local = names.name >>= valued_read local
+
+abbrev scoped : Bool → Line Command
+scoped local = lines.◌>>=◌ expression.name (valued local)
+
+abbrev value_heads : List Head
+value_heads = Head.word (codes "to") ∷ Head.sign sign.Equal ∷ []
+
+module _ {n : ℕ} where
+  agrees-setting : Agrees (Unit {0}) n spec.setting grammar.setting 1 (text_heads ++ numeral_heads) nothing
+  unfolding spec.setting grammar.setting
+  agrees-setting = agrees-same there back (agrees-taken {n = n} spec.text_or_number (omega arith) stands-text (λ text. agrees-pure (record { text = text; number = false }) nothing) (agrees-bind agrees-numeral (λ found. agrees-pure (spec.number_setting found) nothing) refl) refl)
+    where
+      there : (ts : Tokens) (a : Setting) (us : Tokens) → (lines.◌or◌ (lines.◌<$>◌ (λ text. record { text = text; number = false }) (one text_of)) (lines.◌<$>◌ spec.number_setting numeral)) ts a us → grammar.setting ts a us
+      there ts a us (inl (text, middle, front, same)) = inl (text, middle, text-there ts text middle front, same)
+      there ts a us (inr number) = inr number
+
+      back : (ts : Tokens) (a : Setting) (us : Tokens) → grammar.setting ts a us → (lines.◌or◌ (lines.◌<$>◌ (λ text. record { text = text; number = false }) (one text_of)) (lines.◌<$>◌ spec.number_setting numeral)) ts a us
+      back ts a us (inl (text, middle, front, same)) = inl (text, middle, text-back ts text middle front, same)
+      back ts a us (inr number) = inr number
+
+  agrees-set_value : Agrees (Unit {0}) n spec.set_value grammar.set_value 1 (Head.word (codes "default") ∷ text_heads ++ numeral_heads) (bar_sign sign.Comma)
+  unfolding spec.set_value spec.settings is_reserved
+  agrees-set_value = agrees-word (codes "default") (agrees-pure value.Default (bar_sign sign.Comma)) (agrees-bind (agrees-list (bar_sign sign.Comma) agrees-setting refl refl) (λ found. agrees-pure (value.List found) (bar_sign sign.Comma)) refl) refl
+
+  agrees-expect_to : Agrees (Unit {0}) n spec.expect_to (lines.◌or◌ (key (codes "to")) (mark sign.Equal)) 1 value_heads nothing
+  unfolding spec.expect_to
+  agrees-expect_to = agrees-same there back (agrees-word (codes "to") (agrees-pure tt nothing) (agrees-expect_sign sign.Equal) refl)
+    where
+      there : (ts : Tokens) (u : Unit {0}) (us : Tokens) → (lines.◌or◌ (lines.◌>>◌ (key (codes "to")) (gives tt)) (mark sign.Equal)) ts u us → (lines.◌or◌ (key (codes "to")) (mark sign.Equal)) ts u us
+      there ts u us (inl (v, middle, front, same)) = inl (subst (λ vs. ts ≡ token.Word (codes "to") ∷ vs) (sym same.1) front)
+      there ts u us (inr equal) = inr equal
+
+      back : (ts : Tokens) (u : Unit {0}) (us : Tokens) → (lines.◌or◌ (key (codes "to")) (mark sign.Equal)) ts u us → (lines.◌or◌ (lines.◌>>◌ (key (codes "to")) (gives tt)) (mark sign.Equal)) ts u us
+      back ts u us (inl front) = inl (tt, us, front, (refl, refl))
+      back ts u us (inr equal) = inr equal
+
+  agrees-valued : (local : Bool) (name : Text) → Agrees (Unit {0}) n (valued_read local name) (valued local name) 2 value_heads (bar_sign sign.Comma)
+  agrees-valued local name = agrees-bind agrees-expect_to (λ u. agrees-bind agrees-set_value (λ v. agrees-pure (command.Set (record { name = name; local = local; value = v })) (bar_sign sign.Comma)) refl) refl
+
+  agrees-scoped : (local : Bool) → Agrees (Unit {0}) n (scoped_read local) (scoped local) 3 (Head.name ∷ []) (bar_sign sign.Comma)
+  agrees-scoped local = agrees-bind agrees-name (agrees-valued local) refl
+
+-- LOCAL and SESSION are the name where no other one follows
+unscoped : (w : Text) (local : Bool) (ts : Tokens) (c : Command) (us : Tokens) → scoped local ts c us → clear (bar_sign sign.Comma) us ≡ true → sees_before w sees_name ts ≡ false
+unfolding is_reserved
+unscoped w local ts c us (name, middle, front, rest) ends =
+    no-keyword w ts name middle front (begins-clear bar_names value_heads middle refl ((agrees-valued {n = 0} local name).starts middle c us rest ends))
+
+module _ {n : ℕ} where
+  pub agrees-set : Agrees (Unit {0}) n spec.set grammar.set 3 (Head.word (codes "local") ∷ Head.word (codes "session") ∷ Head.name ∷ []) (bar_sign sign.Comma)
+  unfolding spec.set grammar.set spec.scope sees_word
+  agrees-set = agrees-same there back (agrees-keyword (codes "local") sees_name (λ found. cond found (pure true) (eat_before_name (codes "session") >>= (λ u. pure false)) >>= scoped_read) name-seen none (agrees-scoped true)
+      (agrees-keyword (codes "session") sees_name (λ found. scoped_read false) name-seen (unscoped (codes "session") false) (agrees-scoped false) (agrees-scoped false)))
+    where
+      none : (ts : Tokens) (c : Command) (us : Tokens) → (lines.◌or◌ (lines.◌>>◌ (key (codes "session")) (scoped false)) (scoped false)) ts c us → clear (bar_sign sign.Comma) us ≡ true → sees_before (codes "local") sees_name ts ≡ false
+      none ts c us (inl (u, middle, front, rest)) ends = ap (sees_before (codes "local") sees_name) front
+      none ts c us (inr rest) ends = unscoped (codes "local") false ts c us rest ends
+
+      there : (ts : Tokens) (c : Command) (us : Tokens) → (lines.◌or◌ (lines.◌>>◌ (key (codes "local")) (scoped true)) (lines.◌or◌ (lines.◌>>◌ (key (codes "session")) (scoped false)) (scoped false))) ts c us → grammar.set ts c us
+      there ts c us (inl (u, middle, front, rest)) = (true, middle, inr (inl (u, middle, front, (refl, refl))), rest)
+      there ts c us (inr (inl (u, middle, front, rest))) = (false, middle, inl (u, middle, front, (refl, refl)), rest)
+      there ts c us (inr (inr rest)) = (false, ts, inr (inr (refl, refl)), rest)
+
+      moved : (local wanted : Bool) (middle start : Tokens) (c : Command) (us : Tokens) → (local ≡ wanted) × (middle ≡ start) → scoped local middle c us → scoped wanted start c us
+      moved local wanted middle start c us same rest = subst (λ l. scoped l start c us) same.0 (subst (λ vs. scoped local vs c us) same.1 rest)
+
+      back : (ts : Tokens) (c : Command) (us : Tokens) → grammar.set ts c us → (lines.◌or◌ (lines.◌>>◌ (key (codes "local")) (scoped true)) (lines.◌or◌ (lines.◌>>◌ (key (codes "session")) (scoped false)) (scoped false))) ts c us
+      back ts c us (local, middle, inl (u, start, front, same), rest) = inr (inl (u, start, front, moved local false middle start c us same rest))
+      back ts c us (local, middle, inr (inl (u, start, front, same)), rest) = inl (u, start, front, moved local true middle start c us same rest)
+      back ts c us (local, middle, inr (inr same), rest) = inr (inr (moved local false middle ts c us same rest))
+
+  pub agrees-reset : Agrees (Unit {0}) n spec.reset grammar.reset 1 (Head.name ∷ []) nothing
+  unfolding spec.reset grammar.reset
+  agrees-reset = agrees-bind agrees-name (λ found. agrees-pure (command.Reset found) nothing) refl
+
+  pub agrees-show : Agrees (Unit {0}) n spec.show grammar.show 1 (Head.name ∷ []) nothing
+  unfolding spec.show grammar.show
+  agrees-show = agrees-bind agrees-name (λ found. agrees-pure (command.Show found) nothing) refl

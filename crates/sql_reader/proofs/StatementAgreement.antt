@@ -1,0 +1,185 @@
+-- Statements, and the commands that are statements, are read exactly where they are spelt.
+use Rattle.std.proofs.Common.{◌≡◌, inl, inr, ℕ, Bool, true, false, cond, ◌&&◌, [], ◌∷◌, length, drop, Option, Some, None, codes, refl, sym, ap, subst, ◌∙◌, arith}
+use Rattle.sql_tokens.specs.declared.token.Token.TheVariants as token
+use Rattle.sql_tree.specs.declared.command.Command.{Command}
+use Rattle.sql_tree.specs.declared.command.Command.TheVariants as command
+use Rattle.sql_tree.specs.declared.expr.Expr.TheVariants as e
+use Rattle.sql_tree.specs.declared.statement.Statement.{Statement}
+use Rattle.sql_tree.specs.declared.statement.Statement.TheVariants.{Select, Insert}
+use Rattle.sql_reader_query.specs.declared.changes.Change.{Change}
+use Rattle.sql_expr.specs.Reading.{Tokens, Outcome, Parser, and_then, ◌>>=◌, ◌<$>◌, pure, taken, eat_word, sees_word, sees_sign}
+use Rattle.sql_expr.specs.Expressions as spec_expression
+use Rattle.sql_expr.specs.Names.{is_reserved}
+use Rattle.sql_expr.specs.Lines.{Line, gives, key, maybe}
+use Rattle.sql_expr.specs.Lines as lines
+use Rattle.sql_expr.specs.Grammar as expression
+use Rattle.sql_reader_query.specs.Changes as spec_changes
+use Rattle.sql_reader_query.specs.Lists.{looking}
+use Rattle.sql_reader_query.specs.Outputs as spec_outputs
+use Rattle.sql_reader_query.specs.Query as spec_query
+use Rattle.sql_reader_query.specs.Statements as spec
+use Rattle.sql_reader.specs.ChangeGrammar as grammar
+use Rattle.sql_reader.specs.QueryGrammar as query
+use Rattle.sql_expr.proofs.Heads.{Barred, Head, clear, begins, begins-clear, and-left, and-right}
+use Rattle.sql_expr.proofs.Agreement.{Agrees, same_rest, word-seen, agrees-pure, agrees-bind, agrees-same, agrees-wider, agrees-fewer, agrees-word}
+use Rattle.sql_expr.proofs.ExpressionAgreement.{agrees-expression, operators}
+use Rattle.sql_reader.proofs.OptionalAgreement.{also, agrees-read, agrees-looking}
+use Rattle.sql_reader.proofs.QueryAgreement.{select_tail, agrees-selection}
+use Rattle.sql_reader.proofs.ChangeAgreement.{where_tail, returning_tail, agrees-returning, agrees-insertion, agrees-change, agrees-searched, agrees-positioned}
+
+-- ---- a column named current, and WHERE CURRENT OF
+
+current-column : (ts : Tokens) → spec_expression.expression (token.Word (codes "current") ∷ token.Word (codes "of") ∷ ts)
+    ≡ Some (e.Column (record { item = None; name = codes "current" }), token.Word (codes "of") ∷ ts)
+unfolding spec_expression.expression spec_expression.disjunction spec_expression.conjunction spec_expression.negation spec_expression.null_test spec_expression.comparison spec_expression.membership
+    spec_expression.sum spec_expression.product spec_expression.signed spec_expression.primary spec_expression.named spec_expression.column spec_expression.grouped_from taken sees_word sees_sign is_reserved
+current-column ts = refl
+
+record Position (ts : Tokens) : Type 0 where
+  rest : Tokens
+  same : ts ≡ token.Word (codes "where") ∷ token.Word (codes "current") ∷ token.Word (codes "of") ∷ rest
+
+position-seen : (ts : Tokens) → spec_changes.sees_position ts ≡ true → Position ts
+unfolding spec_changes.sees_position
+position-seen ts e =
+    let sooner = and-left (sees_word (codes "where") ts && sees_word (codes "current") (drop 1 ts)) (sees_word (codes "of") (drop 1 (drop 1 ts))) e in
+    let first = word-seen (codes "where") ts (and-left (sees_word (codes "where") ts) (sees_word (codes "current") (drop 1 ts)) sooner) in
+    let second = word-seen (codes "current") (drop 1 ts) (and-right (sees_word (codes "where") ts) (sees_word (codes "current") (drop 1 ts)) sooner) in
+    let third = word-seen (codes "of") (drop 1 (drop 1 ts)) (and-right (sees_word (codes "where") ts && sees_word (codes "current") (drop 1 ts)) (sees_word (codes "of") (drop 1 (drop 1 ts))) e) in
+    record { rest = drop 1 (drop 1 (drop 1 ts)); same = first ∙ ap (λ vs. token.Word (codes "where") ∷ vs) (second ∙ ap (λ vs. token.Word (codes "current") ∷ vs) third) }
+
+sees-position : (c : Change) (ts : Tokens) (b : Command) (us : Tokens) → (lines.◌<$>◌ command.Positioned (grammar.positioned c)) ts b us → spec_changes.sees_position ts ≡ true
+unfolding spec_changes.sees_position grammar.positioned sees_word
+sees-position c ts b us (p, end, (u, behind_where, where_word, (v, behind_current, current, (x, behind_of, of, named))), given) =
+    let same : ts ≡ token.Word (codes "where") ∷ token.Word (codes "current") ∷ token.Word (codes "of") ∷ behind_of
+    = where_word ∙ ap (λ vs. token.Word (codes "where") ∷ vs) (current ∙ ap (λ vs. token.Word (codes "current") ∷ vs) of) in
+    ap spec_changes.sees_position same
+
+-- ---- the readings by the first word
+
+-- what is read behind SELECT or INSERT stands for the value, and else another line is read
+abbrev by_word : {B : Type 0} → (Statement → B) → Parser B → Parser B
+by_word f other = do
+  selects ← eat_word (codes "select")
+  cond selects ((λ s. f (Select s)) <$> spec_query.selection) (do
+    inserts ← eat_word (codes "insert")
+    cond inserts ((λ i. f (Insert i)) <$> spec_changes.insertion) other)
+
+abbrev by_word_line : {B : Type 0} → (Statement → B) → Line B → Line B
+by_word_line f other =
+    lines.◌or◌ (lines.◌>>◌ (key (codes "select")) (lines.◌<$>◌ (λ s. f (Select s)) query.selection))
+    (lines.◌or◌ (lines.◌>>◌ (key (codes "insert")) (lines.◌<$>◌ (λ i. f (Insert i)) grammar.insertion)) other)
+
+-- a statement that was read, and what is made of it
+made : {A B : Type 0} (o : Outcome A) (of : A → Statement) (f : Statement → B) (further : Option Statement → Parser B) → ((s : Statement) → further (Some s) ≡ pure (f s))
+    → and_then o (λ a. pure (f (of a))) ≡ and_then (and_then o (λ a. pure (Some (of a)))) further
+made (Some p) of f further same = sym (ap (λ (r : Parser _). r p.1) (same (of p.0)))
+made None of f further same = refl
+
+same-by-word : {B : Type 0} (f : Statement → B) (other : Parser B) (further : Option Statement → Parser B) → ((s : Statement) → further (Some s) ≡ pure (f s)) → further None ≡ other
+    → (ts : Tokens) → by_word f other ts ≡ (spec.select_or_insert >>= further) ts
+unfolding spec.select_or_insert
+same-by-word {B = B} f other further some none ts = by (sees_word (codes "select") ts) refl (sees_word (codes "insert") ts) refl
+  where
+    by : (selects : Bool) → sees_word (codes "select") ts ≡ selects → (inserts : Bool) → sees_word (codes "insert") ts ≡ inserts → by_word f other ts ≡ (spec.select_or_insert >>= further) ts
+    by true e inserts k = rw e (made (spec_query.selection (drop 1 ts)) Select f further some)
+    by false e true k = rw e (rw k (made (spec_changes.insertion (drop 1 ts)) Insert f further some))
+    by false e false k = rw e (rw k (sym (ap (λ (r : Parser B). r ts) none)))
+
+-- ---- statement
+
+abbrev changed_line : Line Statement
+changed_line = lines.◌>>=◌ grammar.changed (λ c. grammar.searched c)
+
+statement-there : (ts : Tokens) (s : Statement) (us : Tokens) → by_word_line (λ s. s) changed_line ts s us → grammar.statement ts s us
+unfolding grammar.statement query.select
+statement-there ts s us (inl (u, middle, select, (q, end, spelt, given))) = inl (q, end, (u, middle, select, spelt), given)
+statement-there ts s us (inr (inl (u, middle, insert, (i, end, spelt, given)))) = inr (inl (i, end, (u, middle, insert, spelt), given))
+statement-there ts s us (inr (inr changed)) = inr (inr changed)
+
+statement-back : (ts : Tokens) (s : Statement) (us : Tokens) → grammar.statement ts s us → by_word_line (λ s. s) changed_line ts s us
+unfolding grammar.statement query.select
+statement-back ts s us (inl (q, end, (u, middle, select, spelt), given)) = inl (u, middle, select, (q, end, spelt, given))
+statement-back ts s us (inr (inl (i, end, (u, middle, insert, spelt), given))) = inr (inl (u, middle, insert, (i, end, spelt, given)))
+statement-back ts s us (inr (inr changed)) = inr (inr changed)
+
+-- ---- statement_command
+
+-- behind a change
+abbrev changing : Change → Parser Command
+changing c = do
+  found ← looking spec_changes.sees_position
+  cond found (command.Positioned <$> spec_changes.positioned c) (command.Statement <$> spec_changes.searched c)
+
+abbrev changing_line : Change → Line Command
+changing_line c = lines.◌or◌ (lines.◌<$>◌ command.Positioned (grammar.positioned c)) (lines.◌<$>◌ command.Statement (grammar.searched c))
+
+command-there : (ts : Tokens) (b : Command) (us : Tokens) → by_word_line command.Statement (lines.◌>>=◌ grammar.changed changing_line) ts b us → grammar.statement_command ts b us
+unfolding grammar.statement_command grammar.statement query.select
+command-there ts b us (inl (u, middle, select, (q, end, spelt, given))) = inl (Select q, end, inl (q, end, (u, middle, select, spelt), (refl, refl)), given)
+command-there ts b us (inr (inl (u, middle, insert, (i, end, spelt, given)))) = inl (Insert i, end, inr (inl (i, end, (u, middle, insert, spelt), (refl, refl))), given)
+command-there ts b us (inr (inr (c, middle, changed, inl (p, end, spelt, given)))) = inr (p, end, (c, middle, changed, spelt), given)
+command-there ts b us (inr (inr (c, middle, changed, inr (s, end, spelt, given)))) = inl (s, end, inr (inr (c, middle, changed, spelt)), given)
+
+command-back : (ts : Tokens) (b : Command) (us : Tokens) → grammar.statement_command ts b us → by_word_line command.Statement (lines.◌>>=◌ grammar.changed changing_line) ts b us
+unfolding grammar.statement_command grammar.statement query.select
+command-back ts b us (inl (s, end, inl (q, rest, (u, middle, select, spelt), same), given)) =
+    inl (u, middle, select, (q, rest, spelt, (given.0 ∙ ap command.Statement same.0, given.1 ∙ same.1)))
+command-back ts b us (inl (s, end, inr (inl (i, rest, (u, middle, insert, spelt), same)), given)) =
+    inr (inl (u, middle, insert, (i, rest, spelt, (given.0 ∙ ap command.Statement same.0, given.1 ∙ same.1))))
+command-back ts b us (inl (s, end, inr (inr (c, middle, changed, spelt)), given)) = inr (inr (c, middle, changed, inr (s, end, spelt, given)))
+command-back ts b us (inr (p, end, (c, middle, changed, spelt), given)) = inr (inr (c, middle, changed, inl (p, end, spelt, given)))
+
+-- behind a statement, also where it ends sooner
+abbrev pub statement_tail : Barred
+statement_tail = also (codes "returning" ∷ []) [] select_tail
+
+agrees-by_word : {n : ℕ} {B : Type 0} {other : Parser B} {line : Line B} (f : Statement → B) → Agrees (Unit {0}) n other line 1 (Head.word (codes "update") ∷ Head.word (codes "delete") ∷ []) statement_tail
+    → Agrees (Unit {0}) n (by_word f other) (by_word_line f line) 1 (Head.word (codes "select") ∷ Head.word (codes "insert") ∷ Head.word (codes "update") ∷ Head.word (codes "delete") ∷ []) statement_tail
+agrees-by_word f rest = agrees-word (codes "select") (agrees-bind agrees-selection (λ s. agrees-pure (f (Select s)) statement_tail) refl)
+    (agrees-word (codes "insert") (agrees-bind agrees-insertion (λ i. agrees-pure (f (Insert i)) statement_tail) refl) rest refl) refl
+
+pub agrees-statement : {n : ℕ} → Agrees (Unit {0}) n spec.statement grammar.statement 1
+    (Head.word (codes "select") ∷ Head.word (codes "insert") ∷ Head.word (codes "update") ∷ Head.word (codes "delete") ∷ []) statement_tail
+unfolding spec.statement
+agrees-statement = agrees-read (same-by-word (λ s. s) (spec_changes.change >>= spec_changes.searched) spec.statement_or_change (λ s. refl) refl)
+    (agrees-same statement-there statement-back (agrees-by_word (λ s. s)
+    (agrees-wider statement_tail refl (agrees-fewer 1 (omega arith) (agrees-bind agrees-change (λ c. agrees-searched c) refl)))))
+
+-- WHERE CURRENT OF is never a condition
+searched-apart : (c : Change) (ts : Tokens) (b : Command) (us : Tokens) → (lines.◌<$>◌ command.Statement (grammar.searched c)) ts b us → clear returning_tail us ≡ true → spec_changes.sees_position ts ≡ false
+unfolding grammar.searched is_reserved
+searched-apart c ts b us (s, end, (filter, middle, conditioned, (given, last, returned, made)), same) clear_so = by (spec_changes.sees_position ts) refl conditioned
+  where
+    free : clear returning_tail last ≡ true
+    free = subst (λ vs. clear returning_tail vs ≡ true) (same.1 ∙ made.1) clear_so
+
+    returns : begins (Head.word (codes "returning") ∷ Head.others returning_tail ∷ []) middle ≡ true
+    returns = let all : Agrees (Unit {0}) 0 spec_outputs.returning grammar.returning 0 (Head.word (codes "returning") ∷ Head.others returning_tail ∷ []) returning_tail = agrees-returning returning_tail refl refl in
+        all.starts middle given last returned free
+
+    by : (found : Bool) → spec_changes.sees_position ts ≡ found → (maybe (lines.◌>>◌ (key (codes "where")) expression.expression)) ts filter middle → found ≡ false
+    by false e spelt = refl
+    by true e (inr none) =
+        let p = position-seen ts e in
+        let never = subst (λ vs. begins (Head.word (codes "returning") ∷ Head.others returning_tail ∷ []) vs ≡ true) (none.1 ∙ p.same) returns in cc
+    by true e (inl (x, rest, (u, behind_where, where_word, spelt), is)) =
+        let p = position-seen ts e in
+        let here : behind_where ≡ token.Word (codes "current") ∷ token.Word (codes "of") ∷ p.rest = ap (drop 1) (sym where_word ∙ p.same) in
+        let stops = subst (λ vs. begins (Head.word (codes "returning") ∷ Head.others returning_tail ∷ []) vs ≡ true) is.1 returns in
+        let read = (agrees-expression {S = Unit {0}} {n = length behind_where}).complete behind_where x rest (omega arith) spelt (begins-clear operators (Head.word (codes "returning") ∷ Head.others returning_tail ∷ []) rest refl stops) in
+        let left : rest ≡ token.Word (codes "of") ∷ p.rest = same_rest _ _ _ _ (sym (current-column p.rest) ∙ (sym (ap spec_expression.expression here) ∙ read)) in
+        let never = subst (λ vs. begins (Head.word (codes "returning") ∷ Head.others returning_tail ∷ []) vs ≡ true) left stops in cc
+
+agrees-changing : {n : ℕ} (c : Change) → Agrees (Unit {0}) n (spec_changes.change_command c) (changing_line c) 0 (Head.word (codes "where") ∷ Head.word (codes "where") ∷ Head.others where_tail ∷ []) returning_tail
+unfolding spec_changes.change_command is_reserved
+agrees-changing c = agrees-looking (sees-position c) (searched-apart c)
+    (agrees-bind (agrees-positioned c) (λ p. agrees-pure (command.Positioned p) returning_tail) refl)
+    (agrees-bind (agrees-searched c) (λ s. agrees-pure (command.Statement s) returning_tail) refl)
+
+pub agrees-statement_command : {n : ℕ} → Agrees (Unit {0}) n spec.statement_command grammar.statement_command 1
+    (Head.word (codes "select") ∷ Head.word (codes "insert") ∷ Head.word (codes "update") ∷ Head.word (codes "delete") ∷ []) statement_tail
+unfolding spec.statement_command
+agrees-statement_command = agrees-read (same-by-word command.Statement (spec_changes.change >>= spec_changes.change_command) spec.command_or_change (λ s. refl) refl)
+    (agrees-same command-there command-back (agrees-by_word command.Statement
+    (agrees-wider statement_tail refl (agrees-fewer 1 (omega arith) (agrees-bind agrees-change (λ c. agrees-changing c) refl)))))

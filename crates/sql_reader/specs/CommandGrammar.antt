@@ -1,0 +1,76 @@
+-- The grammar of commands: which tokens spell one. A command of SQL begins with its leading word, a line with its backslash.
+use Rattle.std.specs.Prelude.{◌≡◌, ◌≤◌, ◌<◌, ◌⊎◌, List, [], codes, Result, Ok, Err}
+use Rattle.q_base.specs.declared.code.Code.TheVariants.{StackDepthExceeded, SyntaxError}
+use Rattle.q_base.specs.declared.errors.SqlError.{SqlError}
+use Rattle.sql_tokens.specs.declared.token.Token.{Token}
+use Rattle.sql_tree.specs.declared.command.Command.{Command}
+use Rattle.sql_expr.specs.Lines.{Line, ◌>>◌, ◌or◌, key}
+use Rattle.sql_expr.specs.Load.{load_of}
+use Rattle.sql_reader.specs.BlockGrammar.{begin, start, commit, rollback, abort, savepoint, release, set, reset, show}
+use Rattle.sql_reader.specs.CatalogGrammar.{create, drop_object, truncate, analyze, alter}
+use Rattle.sql_reader.specs.ChangeGrammar.{statement_command}
+use Rattle.sql_reader.specs.CursorGrammar.{declare, fetch, move_cursor, close}
+use Rattle.sql_reader.specs.LineGrammar.{backslash_line}
+use Rattle.sql_reader.specs.PreparedGrammar.{prepare, execute, explain, deallocate, discard}
+
+abbrev pub prepared_command : Line Command
+prepared_command =
+    key (codes "prepare") >> prepare
+    or key (codes "execute") >> execute
+    or key (codes "explain") >> explain
+    or key (codes "deallocate") >> deallocate
+    or key (codes "discard") >> discard
+
+abbrev pub cursor_command : Line Command
+cursor_command =
+    key (codes "declare") >> declare
+    or key (codes "fetch") >> fetch
+    or key (codes "move") >> move_cursor
+    or key (codes "close") >> close
+
+abbrev pub block_command : Line Command
+block_command =
+    key (codes "begin") >> begin
+    or key (codes "start") >> start
+    or key (codes "commit") >> commit
+    or key (codes "end") >> commit
+    or key (codes "rollback") >> rollback
+    or key (codes "abort") >> abort
+    or key (codes "savepoint") >> savepoint
+    or key (codes "release") >> release
+
+abbrev pub setting_command : Line Command
+setting_command =
+    key (codes "set") >> set
+    or key (codes "reset") >> reset
+    or key (codes "show") >> show
+
+abbrev pub catalog_command : Line Command
+catalog_command =
+    key (codes "create") >> create
+    or key (codes "drop") >> drop_object
+    or key (codes "truncate") >> truncate
+    or key (codes "analyze") >> analyze
+    or key (codes "alter") >> alter
+
+unfoldable pub command : Line Command
+command =
+    statement_command
+    or prepared_command
+    or cursor_command
+    or block_command
+    or setting_command
+    or catalog_command
+    or backslash_line
+
+-- the tokens, all of them, spell the command
+abbrev pub Spells : List Token → Command → Type 0
+Spells tokens c = command tokens c []
+
+-- what a list of tokens is read as: the command that it spells, or its first refusal. A load past 200 is found before it is
+-- seen what the tokens spell
+abbrev pub IsRead : List Token → Result Command SqlError → Type 0
+IsRead tokens (Ok c) = (load_of tokens ≤ 200) × Spells tokens c
+IsRead tokens (Err error) =
+    ((200 < load_of tokens) × (error ≡ record { code = StackDepthExceeded; args = [] }))
+    ⊎ ((load_of tokens ≤ 200) × ((c : Command) → ¬ Spells tokens c) × (error ≡ record { code = SyntaxError; args = [] }))
