@@ -13,3 +13,7 @@ pub on_refusal : {A : Type 0} {P Q : SqlError → Type 0} (result : Result A Sto
 on_refusal (Ok a) f p = p
 on_refusal (Err (Sql error)) f p = f error p
 on_refusal (Err NoMemory) f p = p
+
+pub on_stop : {P Q : SqlError → Type 0} (stop : Stop) → ((error : SqlError) → P error → Q error) → StopsBy P stop → StopsBy Q stop
+on_stop (Sql error) f p = f error p
+on_stop NoMemory f p = p

@@ -6,6 +6,3 @@ pub mod laws;
 mod leading;
 
 pub use command::read_command;
-
-#[cfg(test)]
-mod tests;

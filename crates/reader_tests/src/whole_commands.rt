@@ -1,5 +1,5 @@
-use crate::read_command;
 use q_base::{Code, Stop};
+use sql_reader::read_command;
 use sql_tokens::tokens;
 use sql_tree::{Command, SchemaCommand, Statement};
 use std::alloc::{AllocError, Global};
