@@ -20,8 +20,8 @@ impl<'a, K: Ord, V, const N: usize> Table<'a, K, V, N> {
         Table { rows }
     }
 
-    /// The value of the only row of `key`; `None` exactly where no row has it. It compares the key with
-    /// at most one row more than the number of rows has binary digits.
+    /// The value of the only row of `key`; `None` exactly where no row has it. A binary search: it compares
+    /// the key with about as many rows as the number of rows has binary digits.
     pub fn find(&self, key: &K) -> Option<&'a V>
         ensures value { option_copied result ≡ value_of K.cmp key.now self.now.rows.now }
         ensures only { MatchOption (option_copied result) (rows_of K.cmp key.now self.now.rows.now ≡ []) (λ value. (same : K) × (rows_of K.cmp key.now self.now.rows.now ≡ (same, value) ∷ [])) }

@@ -23,7 +23,8 @@ use sql_reader_query::relation;
 use sql_tree::{AlterAction, AlterTree, Command, SchemaCommand};
 use std::alloc::Global;
 
-/// The command whose leading ALTER was read. 42601 where the tokens don't begin so.
+/// The command whose leading ALTER was read: of a table or a schema (PostgreSQL's manual, ALTER TABLE and ALTER SCHEMA).
+/// 42601 where the tokens don't go on so.
 #[tactic(auto, unfolding(crate::specs::Alteration::alter))]
 pub fn alter(alloc: Global, cursor: &mut Cursor<'_>) -> Result<Command, Stop>
     ensures { Reads (spec.alter cursor.old) result cursor.new }

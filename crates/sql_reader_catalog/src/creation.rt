@@ -17,7 +17,8 @@ use sql_reader_query::{optional_names, parenthesized_names, relation, select};
 use sql_tree::{Command, IndexTree, SchemaCommand, Statement, ViewTree};
 use std::alloc::Global;
 
-/// The command whose leading CREATE was read. 42601 where the tokens don't begin so.
+/// The command whose leading CREATE was read: of a schema, a table, an index or a view (PostgreSQL's manual, CREATE SCHEMA,
+/// TABLE, INDEX and VIEW). 42601 where the tokens don't go on so.
 #[tactic(auto, unfolding(crate::specs::Creation::create))]
 pub fn create(alloc: Global, cursor: &mut Cursor<'_>) -> Result<Command, Stop>
     ensures { Reads (spec.create cursor.old) result cursor.new }

@@ -16,7 +16,8 @@ use sql_reader_query::relation;
 use sql_tree::{Command, DropTree, ObjectKind, SchemaCommand};
 use std::alloc::Global;
 
-/// The command whose leading DROP was read. 42601 where the tokens don't begin so.
+/// The command whose leading DROP was read: of a schema, a table, an index or a view (PostgreSQL's manual, DROP SCHEMA,
+/// TABLE, INDEX and VIEW). 42601 where the tokens don't go on so.
 #[tactic(auto, unfolding(crate::specs::Removal::drop_object))]
 pub fn drop_object(alloc: Global, cursor: &mut Cursor<'_>) -> Result<Command, Stop>
     ensures { Reads (spec.drop_object cursor.old) result cursor.new }
@@ -61,7 +62,8 @@ fn eat_cascade(cursor: &mut Cursor<'_>) -> bool
     false
 }
 
-/// The command whose leading TRUNCATE was read. 42601 where the tokens don't begin so.
+/// The command whose leading TRUNCATE was read: perhaps TABLE, and a table's name (PostgreSQL's manual, TRUNCATE). 42601
+/// where the tokens don't go on so.
 #[tactic(auto, unfolding(crate::specs::Removal::truncate))]
 pub fn truncate(alloc: Global, cursor: &mut Cursor<'_>) -> Result<Command, Stop>
     ensures { Reads (spec.truncate cursor.old) result cursor.new }
@@ -70,8 +72,8 @@ pub fn truncate(alloc: Global, cursor: &mut Cursor<'_>) -> Result<Command, Stop>
     Ok(Command::Truncate(relation(alloc, cursor)?))
 }
 
-/// The command whose leading ANALYZE was read: of the relation that comes next, or of all where no name does.
-/// 42601 where no name stands behind a schema's name and a dot.
+/// The command whose leading ANALYZE was read: of the relation that comes next, or of all where no name does (PostgreSQL's
+/// manual, ANALYZE). 42601 where no name stands behind a schema's name and a dot.
 #[tactic(auto, unfolding(crate::specs::Removal::analyze))]
 pub fn analyze(alloc: Global, cursor: &mut Cursor<'_>) -> Result<Command, Stop>
     ensures { Reads (spec.analyze cursor.old) result cursor.new }

@@ -36,7 +36,7 @@ fn savepoint_name(alloc: Global, cursor: &mut Cursor<'_>) -> Result<Str, Stop>
     name(alloc, cursor)
 }
 
-/// BEGIN.
+/// What may stand behind BEGIN: WORK, TRANSACTION or nothing, so it refuses nothing (PostgreSQL's manual, BEGIN).
 #[tactic(auto, unfolding(crate::specs::Blocks::begin))]
 pub fn begin(cursor: &mut Cursor<'_>) -> Command
     ensures { spec.begin cursor.old ≡ Some (result, cursor.new) }
@@ -45,7 +45,7 @@ pub fn begin(cursor: &mut Cursor<'_>) -> Command
     Command::Begin
 }
 
-/// START TRANSACTION.
+/// What stands behind START: TRANSACTION (PostgreSQL's manual, START TRANSACTION). 42601 where it doesn't.
 #[tactic(auto, unfolding(crate::specs::Blocks::start))]
 pub fn start(alloc: Global, cursor: &mut Cursor<'_>) -> Result<Command, Stop>
     ensures { Reads (spec.start cursor.old) result cursor.new }
@@ -54,7 +54,8 @@ pub fn start(alloc: Global, cursor: &mut Cursor<'_>) -> Result<Command, Stop>
     Ok(Command::StartTransaction)
 }
 
-/// COMMIT or END.
+/// What may stand behind COMMIT or END, which mean the same: WORK, TRANSACTION or nothing, so it refuses nothing
+/// (PostgreSQL's manual, COMMIT and END).
 #[tactic(auto, unfolding(crate::specs::Blocks::commit))]
 pub fn commit(cursor: &mut Cursor<'_>) -> Command
     ensures { spec.commit cursor.old ≡ Some (result, cursor.new) }
@@ -63,7 +64,8 @@ pub fn commit(cursor: &mut Cursor<'_>) -> Command
     Command::Commit
 }
 
-/// ROLLBACK, with a savepoint or without.
+/// What stands behind ROLLBACK: WORK, TRANSACTION or nothing, and then perhaps TO and a savepoint's name (PostgreSQL's
+/// manual, ROLLBACK and ROLLBACK TO SAVEPOINT). 42601 where no name stands behind TO.
 #[tactic(auto, unfolding(crate::specs::Blocks::rollback))]
 pub fn rollback(alloc: Global, cursor: &mut Cursor<'_>) -> Result<Command, Stop>
     ensures { Reads (spec.rollback cursor.old) result cursor.new }
@@ -75,7 +77,8 @@ pub fn rollback(alloc: Global, cursor: &mut Cursor<'_>) -> Result<Command, Stop>
     Ok(Command::RollbackTo(savepoint_name(alloc, cursor)?))
 }
 
-/// ABORT, which is ROLLBACK without a savepoint.
+/// What may stand behind ABORT, which is ROLLBACK without a savepoint: WORK, TRANSACTION or nothing, so it refuses
+/// nothing (PostgreSQL's manual, ABORT).
 #[tactic(auto, unfolding(crate::specs::Blocks::abort))]
 pub fn abort(cursor: &mut Cursor<'_>) -> Command
     ensures { spec.abort cursor.old ≡ Some (result, cursor.new) }
@@ -84,7 +87,7 @@ pub fn abort(cursor: &mut Cursor<'_>) -> Command
     Command::Rollback
 }
 
-/// SAVEPOINT.
+/// What stands behind SAVEPOINT: the name of the new savepoint (PostgreSQL's manual, SAVEPOINT). 42601 where none does.
 #[tactic(auto, unfolding(crate::specs::Blocks::savepoint))]
 pub fn savepoint(alloc: Global, cursor: &mut Cursor<'_>) -> Result<Command, Stop>
     ensures { Reads (spec.savepoint cursor.old) result cursor.new }
@@ -92,7 +95,8 @@ pub fn savepoint(alloc: Global, cursor: &mut Cursor<'_>) -> Result<Command, Stop
     Ok(Command::Savepoint(name(alloc, cursor)?))
 }
 
-/// RELEASE.
+/// What stands behind RELEASE: perhaps SAVEPOINT, and a savepoint's name (PostgreSQL's manual, RELEASE SAVEPOINT).
+/// 42601 where no name does.
 #[tactic(auto, unfolding(crate::specs::Blocks::release))]
 pub fn release(alloc: Global, cursor: &mut Cursor<'_>) -> Result<Command, Stop>
     ensures { Reads (spec.release cursor.old) result cursor.new }

@@ -29,8 +29,9 @@ pub enum CursorOption {
     Asensitive,
 }
 
-/// DECLARE. Its options may be written in any order and several times; which of them can't stand together
-/// isn't judged here.
+/// What stands behind DECLARE: the cursor's name, its options, CURSOR, perhaps WITH or WITHOUT HOLD, FOR and a query
+/// (PostgreSQL's manual, DECLARE). The options may be written in any order and several times; which of them can't stand
+/// together isn't judged here. 42601 where the tokens don't go on so.
 #[tactic(auto, unfolding(crate::specs::Cursors::declare))]
 pub fn declare(alloc: Global, cursor: &mut Cursor<'_>) -> Result<Command, Stop>
     ensures { Reads (spec.declare cursor.old) result cursor.new }
@@ -176,7 +177,8 @@ fn fetch_tree(alloc: Global, cursor: &mut Cursor<'_>) -> Result<FetchTree, Stop>
     })
 }
 
-/// FETCH.
+/// What stands behind FETCH: a motion, or none for NEXT, perhaps FROM or IN, and the cursor's name (PostgreSQL's manual,
+/// FETCH). 42601 where the tokens don't go on so, and for a count past 2147483647 on either side of 0.
 #[tactic(auto, unfolding(crate::specs::Cursors::fetch))]
 pub fn fetch(alloc: Global, cursor: &mut Cursor<'_>) -> Result<Command, Stop>
     ensures { Reads (spec.fetch cursor.old) result cursor.new }
@@ -184,7 +186,7 @@ pub fn fetch(alloc: Global, cursor: &mut Cursor<'_>) -> Result<Command, Stop>
     Ok(Command::Fetch(fetch_tree(alloc, cursor)?))
 }
 
-/// MOVE.
+/// What stands behind MOVE, which is what stands behind FETCH (PostgreSQL's manual, MOVE). 42601 as there.
 #[tactic(auto, unfolding(crate::specs::Cursors::move_cursor))]
 pub fn move_cursor(alloc: Global, cursor: &mut Cursor<'_>) -> Result<Command, Stop>
     ensures { Reads (spec.move_cursor cursor.old) result cursor.new }
@@ -192,7 +194,7 @@ pub fn move_cursor(alloc: Global, cursor: &mut Cursor<'_>) -> Result<Command, St
     Ok(Command::Move(fetch_tree(alloc, cursor)?))
 }
 
-/// CLOSE.
+/// What stands behind CLOSE: ALL or a cursor's name (PostgreSQL's manual, CLOSE). 42601 where neither does.
 #[tactic(auto, unfolding(crate::specs::Cursors::close))]
 pub fn close(alloc: Global, cursor: &mut Cursor<'_>) -> Result<Command, Stop>
     ensures { Reads (spec.close cursor.old) result cursor.new }

@@ -36,7 +36,9 @@ fn run_tree(alloc: Global, cursor: &mut Cursor<'_>) -> Result<RunTree, Stop>
     Ok(RunTree { portal, count })
 }
 
-/// The backslash line of these letters, which are told apart by case. 42601 where there is no such line.
+/// What stands behind a backslash and these letters, which are told apart by case: the parts that the line asks for
+/// (this project's own: two for the views pg_prepared_statements and pg_cursors, five for messages of PostgreSQL's extended
+/// query protocol). 42601 where there is no such line, and where the tokens don't go on as it asks.
 #[tactic(auto, unfolding(crate::specs::Lines::backslash_line))]
 pub fn backslash_line(
     alloc: Global,

@@ -74,7 +74,8 @@ pub(crate) fn execute_tree(alloc: Global, cursor: &mut Cursor<'_>) -> Result<Exe
     Ok(ExecuteTree { name, arguments })
 }
 
-/// PREPARE.
+/// What stands behind PREPARE: the statement's name, perhaps names of types in parentheses, AS and a statement
+/// (PostgreSQL's manual, PREPARE). 42601 where the tokens don't go on so.
 #[tactic(auto, unfolding(crate::specs::Prepared::prepare))]
 pub fn prepare(alloc: Global, cursor: &mut Cursor<'_>) -> Result<Command, Stop>
     ensures { Reads (spec.prepare cursor.old) result cursor.new }
@@ -82,7 +83,8 @@ pub fn prepare(alloc: Global, cursor: &mut Cursor<'_>) -> Result<Command, Stop>
     Ok(Command::Prepare(prepare_tree(alloc, cursor)?))
 }
 
-/// EXECUTE.
+/// What stands behind EXECUTE: the statement's name, and perhaps arguments in parentheses, one at least (PostgreSQL's
+/// manual, EXECUTE). 42601 where the tokens don't go on so.
 #[tactic(auto, unfolding(crate::specs::Prepared::execute))]
 pub fn execute(alloc: Global, cursor: &mut Cursor<'_>) -> Result<Command, Stop>
     ensures { Reads (spec.execute cursor.old) result cursor.new }
@@ -90,7 +92,8 @@ pub fn execute(alloc: Global, cursor: &mut Cursor<'_>) -> Result<Command, Stop>
     Ok(Command::Execute(execute_tree(alloc, cursor)?))
 }
 
-/// EXPLAIN of a statement or of an EXECUTE.
+/// What stands behind EXPLAIN: a statement, or EXECUTE with its name and arguments (PostgreSQL's manual, EXPLAIN; its
+/// options aren't in this project's subset). 42601 where neither does.
 #[tactic(auto, unfolding(crate::specs::Prepared::explain))]
 pub fn explain(alloc: Global, cursor: &mut Cursor<'_>) -> Result<Command, Stop>
     ensures { Reads (spec.explain cursor.old) result cursor.new }
@@ -114,7 +117,8 @@ fn eat_prepare(cursor: &mut Cursor<'_>) -> bool
     found
 }
 
-/// DEALLOCATE.
+/// What stands behind DEALLOCATE: perhaps PREPARE, and ALL or a statement's name (PostgreSQL's manual, DEALLOCATE). 42601
+/// where neither does.
 #[tactic(auto, unfolding(crate::specs::Prepared::deallocate))]
 pub fn deallocate(alloc: Global, cursor: &mut Cursor<'_>) -> Result<Command, Stop>
     ensures { Reads (spec.deallocate cursor.old) result cursor.new }
@@ -126,7 +130,8 @@ pub fn deallocate(alloc: Global, cursor: &mut Cursor<'_>) -> Result<Command, Sto
     Ok(Command::Deallocate(name(alloc, cursor)?))
 }
 
-/// DISCARD of plans or of temporary tables.
+/// What stands behind DISCARD: PLANS, or TEMP or TEMPORARY for temporary tables (PostgreSQL's manual, DISCARD). 42601
+/// where none of them does.
 #[tactic(auto, unfolding(crate::specs::Prepared::discard))]
 pub fn discard(alloc: Global, cursor: &mut Cursor<'_>) -> Result<Command, Stop>
     ensures { Reads (spec.discard cursor.old) result cursor.new }

@@ -128,7 +128,8 @@ fn expect_to(alloc: Global, cursor: &mut Cursor<'_>) -> Result<(), Stop>
     cursor.expect_sign(alloc, Sign::Equal)
 }
 
-/// SET.
+/// What stands behind SET: perhaps SESSION or LOCAL, a setting's name, TO or `=`, and DEFAULT or a list of values
+/// (PostgreSQL's manual, SET). Neither the name nor the values are judged here. 42601 where the tokens don't go on so.
 #[tactic(auto, unfolding(crate::specs::Settings::set))]
 pub fn set(alloc: Global, cursor: &mut Cursor<'_>) -> Result<Command, Stop>
     ensures { Reads (spec.set cursor.old) result cursor.new }
@@ -140,7 +141,7 @@ pub fn set(alloc: Global, cursor: &mut Cursor<'_>) -> Result<Command, Stop>
     Ok(Command::Set(SetTree { name, local, value }))
 }
 
-/// RESET.
+/// What stands behind RESET: a setting's name, which isn't judged here (PostgreSQL's manual, RESET). 42601 where none does.
 #[tactic(auto, unfolding(crate::specs::Settings::reset))]
 pub fn reset(alloc: Global, cursor: &mut Cursor<'_>) -> Result<Command, Stop>
     ensures { Reads (spec.reset cursor.old) result cursor.new }
@@ -148,7 +149,7 @@ pub fn reset(alloc: Global, cursor: &mut Cursor<'_>) -> Result<Command, Stop>
     Ok(Command::Reset(name(alloc, cursor)?))
 }
 
-/// SHOW.
+/// What stands behind SHOW: a setting's name, which isn't judged here (PostgreSQL's manual, SHOW). 42601 where none does.
 #[tactic(auto, unfolding(crate::specs::Settings::show))]
 pub fn show(alloc: Global, cursor: &mut Cursor<'_>) -> Result<Command, Stop>
     ensures { Reads (spec.show cursor.old) result cursor.new }
