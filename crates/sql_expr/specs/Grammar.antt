@@ -76,8 +76,7 @@ module _ (nested : Level → Line Expr) where
 
   -- a `-` directly before a number makes a negative literal
   unfoldable pub signed : Line Expr
-  signed =
-      (mark sign.Minus >> negative_number <$> one digits_of)
+  signed = (mark sign.Minus >> negative_number <$> one digits_of)
       or (mark sign.Minus >> unless digits_of >> e.Minus <$> nested Signed)
       or primary
 

@@ -38,8 +38,7 @@ commit = work >> gives command.Commit
 -- ROLLBACK [WORK | TRANSACTION]
 -- | ROLLBACK [WORK | TRANSACTION] TO [SAVEPOINT] name
 unfoldable pub rollback : Line Command
-rollback =
-    work >> gives command.Rollback
+rollback = work >> gives command.Rollback
     or (do
       work
       key (codes "to")
@@ -76,8 +75,7 @@ setting_text = name or one string_of or itself (codes "on") or itself (codes "tr
 
 -- name | string | ON | TRUE | FALSE | ["-"] number
 unfoldable pub setting : Line Setting
-setting =
-    (λ text. record { text = text; number = false }) <$> setting_text
+setting = (λ text. record { text = text; number = false }) <$> setting_text
     or number_setting <$> numeral
 
 -- DEFAULT | list(setting)

@@ -57,15 +57,13 @@ pub data Part : Type 0 where
 
 -- PRIMARY KEY | UNIQUE, in CREATE TABLE alone
 unfoldable pub key_part : Bool → Line Part
-key_part true =
-    (key (codes "primary") >> (key (codes "key") >> gives (Part.keyed kind.Primary)))
+key_part true = (key (codes "primary") >> (key (codes "key") >> gives (Part.keyed kind.Primary)))
     or (key (codes "unique") >> gives (Part.keyed kind.Unique))
 key_part false = nowhere
 
 -- NOT NULL | NULL | DEFAULT constant | PRIMARY KEY | UNIQUE
 unfoldable pub part : Bool → Line Part
-part with_keys =
-    (key (codes "not") >> (key (codes "null") >> gives (Part.nulls false)))
+part with_keys = (key (codes "not") >> (key (codes "null") >> gives (Part.nulls false)))
     or (key (codes "null") >> gives (Part.nulls true))
     or (key (codes "default") >> Part.default <$> constant)
     or key_part with_keys
@@ -124,8 +122,7 @@ constraint kind = (λ columns. element_of.Key (record { kind = kind; columns = c
 
 -- PRIMARY KEY "(" names ")" | UNIQUE "(" names ")" | column_def
 unfoldable pub element : Line TableElement
-element =
-    (key (codes "primary") >> (key (codes "key") >> constraint kind.Primary))
+element = (key (codes "primary") >> (key (codes "key") >> constraint kind.Primary))
     or (key (codes "unique") >> constraint kind.Unique)
     or element_of.Column <$> column_def true
 
@@ -140,8 +137,7 @@ table = do
 
 -- PRESERVE ROWS | DELETE ROWS | DROP
 abbrev pub commit_action : Line OnCommit
-commit_action =
-    (key (codes "preserve") >> (key (codes "rows") >> gives Preserve))
+commit_action = (key (codes "preserve") >> (key (codes "rows") >> gives Preserve))
     or (key (codes "delete") >> (key (codes "rows") >> gives Delete))
     or (key (codes "drop") >> gives Drop)
 
@@ -178,8 +174,7 @@ view = do
 
 -- SCHEMA name | TABLE table | (TEMP | TEMPORARY) TABLE temp_table | [UNIQUE] INDEX index | view
 unfoldable pub create : Line Command
-create =
-    (key (codes "schema") >> (λ made. command.Schema (schema.Create made)) <$> name)
+create = (key (codes "schema") >> (λ made. command.Schema (schema.Create made)) <$> name)
     or (key (codes "table") >> command.CreateTable <$> table)
     or (do
       key (codes "temp") or key (codes "temporary")
@@ -195,8 +190,7 @@ create =
 
 -- TABLE | VIEW | INDEX
 unfoldable pub object_kind : Line ObjectKind
-object_kind =
-    (key (codes "table") >> gives object.Table)
+object_kind = (key (codes "table") >> gives object.Table)
     or (key (codes "view") >> gives object.View)
     or (key (codes "index") >> gives object.Index)
 
@@ -206,8 +200,7 @@ cascaded = (key (codes "restrict") >> gives false) or (key (codes "cascade") >> 
 
 -- SCHEMA name | (TABLE | VIEW | INDEX) relation [RESTRICT | CASCADE]
 unfoldable pub drop_object : Line Command
-drop_object =
-    (key (codes "schema") >> (λ dropped. command.Schema (schema.Drop dropped)) <$> name)
+drop_object = (key (codes "schema") >> (λ dropped. command.Schema (schema.Drop dropped)) <$> name)
     or (do
       kind ← object_kind
       dropped ← relation
@@ -280,8 +273,7 @@ renaming = do
 
 -- SCHEMA name RENAME TO name | TABLE relation action
 unfoldable pub alter : Line Command
-alter =
-    (key (codes "schema") >> command.Schema <$> renaming)
+alter = (key (codes "schema") >> command.Schema <$> renaming)
     or (do
       key (codes "table")
       altered ← relation

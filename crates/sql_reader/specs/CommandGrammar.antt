@@ -14,23 +14,20 @@ use Rattle.sql_reader.specs.LineGrammar.{backslash_line}
 use Rattle.sql_reader.specs.PreparedGrammar.{prepare, execute, explain, deallocate, discard}
 
 abbrev pub prepared_command : Line Command
-prepared_command =
-    key (codes "prepare") >> prepare
+prepared_command = key (codes "prepare") >> prepare
     or key (codes "execute") >> execute
     or key (codes "explain") >> explain
     or key (codes "deallocate") >> deallocate
     or key (codes "discard") >> discard
 
 abbrev pub cursor_command : Line Command
-cursor_command =
-    key (codes "declare") >> declare
+cursor_command = key (codes "declare") >> declare
     or key (codes "fetch") >> fetch
     or key (codes "move") >> move_cursor
     or key (codes "close") >> close
 
 abbrev pub block_command : Line Command
-block_command =
-    key (codes "begin") >> begin
+block_command = key (codes "begin") >> begin
     or key (codes "start") >> start
     or key (codes "commit") >> commit
     or key (codes "end") >> commit
@@ -40,22 +37,19 @@ block_command =
     or key (codes "release") >> release
 
 abbrev pub setting_command : Line Command
-setting_command =
-    key (codes "set") >> set
+setting_command = key (codes "set") >> set
     or key (codes "reset") >> reset
     or key (codes "show") >> show
 
 abbrev pub catalog_command : Line Command
-catalog_command =
-    key (codes "create") >> create
+catalog_command = key (codes "create") >> create
     or key (codes "drop") >> drop_object
     or key (codes "truncate") >> truncate
     or key (codes "analyze") >> analyze
     or key (codes "alter") >> alter
 
 unfoldable pub command : Line Command
-command =
-    statement_command
+command = statement_command
     or prepared_command
     or cursor_command
     or block_command

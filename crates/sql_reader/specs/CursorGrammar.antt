@@ -29,8 +29,7 @@ count = one count_of
 
 -- SCROLL | NO SCROLL | INSENSITIVE | ASENSITIVE
 abbrev pub cursor_option : Line CursorOption
-cursor_option =
-    key (codes "scroll") >> gives Scroll
+cursor_option = key (codes "scroll") >> gives Scroll
     or key (codes "no") >> (key (codes "scroll") >> gives NoScroll)
     or key (codes "insensitive") >> gives Insensitive
     or key (codes "asensitive") >> gives Asensitive
@@ -42,8 +41,7 @@ gathered options (option ∷ more) = gathered (with_option options option) more
 
 -- [(WITH | WITHOUT) HOLD], and whether WITH is written
 abbrev pub hold : Line Bool
-hold =
-    key (codes "with") >> (key (codes "hold") >> gives true)
+hold = key (codes "with") >> (key (codes "hold") >> gives true)
     or key (codes "without") >> (key (codes "hold") >> gives false)
     or gives false
 
@@ -67,8 +65,7 @@ integer = do
 
 -- NEXT | PRIOR | FIRST | LAST | ABSOLUTE integer | RELATIVE integer | integer | ALL | (FORWARD | BACKWARD) [ALL | integer]
 unfoldable pub motion : Line Motion
-motion =
-    key (codes "next") >> gives moves.Next
+motion = key (codes "next") >> gives moves.Next
     or key (codes "prior") >> gives moves.Prior
     or key (codes "first") >> gives moves.First
     or key (codes "last") >> gives moves.Last

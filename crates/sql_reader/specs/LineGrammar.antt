@@ -30,8 +30,7 @@ run_tree = do
   gives (record { portal = portal; count = rows })
 
 unfoldable pub backslash_line : Line Command
-backslash_line =
-    line (codes "prepared") >> gives command.ShowPrepared
+backslash_line = line (codes "prepared") >> gives command.ShowPrepared
     or line (codes "cursors") >> gives command.ShowCursors
     or line (codes "sync") >> gives command.Sync
     or line (codes "parse") >> command.Parse <$> prepare_tree

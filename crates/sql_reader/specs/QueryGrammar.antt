@@ -31,8 +31,7 @@ alias = maybe (said (codes "as") >> name)
 
 -- "*" | name "." "*" | expression alias
 unfoldable pub output : Line OutputItem
-output =
-    (mark sign.Star >> gives output_item.All)
+output = (mark sign.Star >> gives output_item.All)
     or (do
       item ← name
       mark sign.Dot
