@@ -5,7 +5,7 @@ use Rattle.std.specs.List.{slice_get}
 use Rattle.row_index.specs.Entries.{IsAscending, is_at}
 use Rattle.row_index.specs.Leads.{lead_of_last}
 use Rattle.row_index.proofs.Edits.{ascending_without, without_entry_absent, without_entry_there}
-use Rattle.row_index.proofs.block.Block.remove.Goals as goal
+use Rattle.row_index.proofs.block.BlockPart.remove.Goals as goal
 
 pub returns-then-has_at : goal.returns-then-has_at
 returns-then-has_at c =

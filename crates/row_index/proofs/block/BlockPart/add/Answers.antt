@@ -5,7 +5,7 @@ use Rattle.std.specs.List.{slice_get}
 use Rattle.row_index.specs.Entries.{IsAscending, is_at, with_entry}
 use Rattle.row_index.specs.Leads.{lead_of_last}
 use Rattle.row_index.proofs.Edits.{ascending_with, with_entry_new, with_entry_there}
-use Rattle.row_index.proofs.block.Block.add.Goals as goal
+use Rattle.row_index.proofs.block.BlockPart.add.Goals as goal
 
 inserted : (c : goal.After-self-1) → c.insert.new.self.items ≡ with_entry c.args.entry c.args.self.now
 inserted c =

@@ -9,7 +9,7 @@ use Rattle.row_index.specs.Leads.{key_lead, lead_of_last}
 use Rattle.row_index.proofs.Cuts.{before_down}
 use Rattle.row_index.proofs.Leads.{last_is}
 use Rattle.row_index.proofs.Lists.{all_by_last}
-use Rattle.row_index.proofs.block.Block.lies_before.Goals as goal
+use Rattle.row_index.proofs.block.BlockPart.lies_before.Goals as goal
 
 pub comes_after-requires : goal.comes_after-requires
 comes_after-requires c =
