@@ -3,7 +3,8 @@ ghost use Rattle.std.specs.Option.{option_copied};
 ghost use Rattle.std.specs.Ordering.{is_eq};
 ghost use Rattle.row_index.specs.declared.entries.IndexPlace.{IndexPlace};
 ghost use Rattle.row_index.specs.Order.{entry_cmp, entry_of};
-ghost use Rattle.row_index.specs.Ranges.{entries_past, is_next};
+ghost use Rattle.row_index.specs.Ranges.{entries_past, is_next, next_of};
+ghost use Rattle.row_index.specs.Cuts.{is_before};
 ghost use Rattle.row_index.specs.Entries.{IsAscending, has_entry, with_entry, without_entry};
 
 use crate::block::Block;
@@ -76,7 +77,20 @@ impl Index {
         ensures ascending { IsAscending self.now }
     {
         laws::orders();
-        let next = self.groups.first_from(&Cut::Rest(range, last))?;
+        match last {
+            Some(last) if !key_side_of(range, &last.key).is_lt() => {
+                self.first_of(range, &Cut::Past(&Sought::new(&last.key, last.slot)))
+            }
+            _ => self.first_of(range, &Cut::Range(range)),
+        }
+    }
+
+    /// The first entry that doesn't lie before the cut, where it is one of the range.
+    fn first_of(&self, range: &KeyRange, cut: &Cut<'_>) -> Option<&IndexPlace>
+        ensures first { option_copied result ≡ next_of range.now (find (λ entry. not (is_before cut.now entry)) self.now) }
+        ensures ascending { IsAscending self.now }
+    {
+        let next = self.groups.first_from(cut)?;
         if key_side_of(range, &next.key).is_eq() {
             Some(next)
         } else {
