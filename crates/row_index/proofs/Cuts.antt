@@ -72,8 +72,11 @@ module _ (o : IsTotalOrder value_cmp) where
   pub side_up : (range : KeyRange) (x y : IndexPlace) → entry_cmp x y ≡ Less → ordering_index (key_side range x.key) ≤ ordering_index (key_side range y.key)
   side_up range x y lt = key_side_up o range x.key y.key (then_first _ _ (ap is_gt lt))
 
+  pub less_is_down : (sought : IndexPlace) → IsDownward (λ x. is_lt (entry_cmp x sought))
+  less_is_down sought x y lt e = ap is_lt ((entries_total o).trans x y sought lt (less_is _ e))
+
   pub before_down : (cut : Cut) → IsDownward (is_before cut)
-  before_down (Entry sought) x y lt e = ap is_lt ((entries_total o).trans x y sought.now lt (less_is _ e))
+  before_down (Entry sought) x y lt e = less_is_down sought.now x y lt e
   before_down (Past sought) x y lt e = past_down (Some sought.now) x y lt e
   before_down (Range range) x y lt e = less_down _ _ (side_up range.now x y lt) e
 

@@ -1,5 +1,8 @@
 ghost use Rattle.std.specs.Prelude.{◌≡◌, ◌≤◌, true, false, [], length, slice_get};
+ghost use Rattle.std.specs.List.{prefix_len};
 ghost use Rattle.std.specs.List.Sorted.{IsPartitionPoint};
+ghost use Rattle.std.specs.Ordering.{is_lt};
+ghost use Rattle.row_index.specs.Order.{entry_cmp};
 ghost use Rattle.row_index.specs.Cuts.{is_before};
 ghost use Rattle.row_index.specs.Entries.{is_at};
 
@@ -45,6 +48,15 @@ impl Block {
         laws::orders();
         self.entries
             .partition_point(|stored| cut.comes_after(stored.lead(), stored.entry()))
+    }
+
+    /// How many entries come before the one that is sought.
+    fn place_for(&self, sought: &Sought<'_>) -> usize
+        ensures within { result ≤ length self.now }
+        ensures parted { IsPartitionPoint (λ entry. is_lt (entry_cmp entry sought.now) ≡ true) (λ entry. is_lt (entry_cmp entry sought.now) ≡ false) self.now result }
+    {
+        laws::orders();
+        lesser_of(self.entries.as_slice(), sought)
     }
 
     /// Tells whether the entry stands at a place.
@@ -94,7 +106,7 @@ impl Part for Block {
     fn add(&mut self, _alloc: Global, entry: Stored) -> Result<(), NoMemory> {
         laws::orders();
         let sought = entry.sought();
-        let place = self.place_of(&Cut::Entry(&sought));
+        let place = self.place_for(&sought);
         if !self.has_at(place, &sought) {
             self.entries.insert(place, entry)?;
             self.last_lead = last_lead_of(self.entries.as_slice());
@@ -104,7 +116,7 @@ impl Part for Block {
 
     fn remove(&mut self, sought: &Sought<'_>) {
         laws::orders();
-        let place = self.place_of(&Cut::Entry(sought));
+        let place = self.place_for(sought);
         if self.has_at(place, sought) {
             let _ = self.entries.remove(place);
             self.last_lead = last_lead_of(self.entries.as_slice());
@@ -125,4 +137,19 @@ impl Part for Block {
             entries,
         })
     }
+}
+
+/// How many of the first entries come before the one that is sought.
+///
+/// They are looked at one after another: the processor fetches the next ones from memory while it waits for
+/// one, where a search by halves waits for each.
+fn lesser_of(entries: &[Stored], sought: &Sought<'_>) -> usize
+    ensures { result ≡ prefix_len (λ entry. is_lt (entry_cmp entry sought.now)) entries.now }
+{
+    for (place, stored) in entries.iter().enumerate() {
+        if !sought.order_of(stored.lead(), stored.entry()).is_lt() {
+            return place;
+        }
+    }
+    entries.len()
 }

@@ -23,6 +23,7 @@ pub(crate) enum Cut<'a> {
 
 impl Cut<'_> {
     /// Tells whether `entry`, whose key has this lead, lies before the cut.
+    #[inline(always)]
     pub(crate) fn comes_after(&self, lead: i64, entry: &IndexPlace) -> bool
         requires { lead ≡ key_lead entry.now.key }
         ensures { result ≡ is_before self.now entry.now }

@@ -9,11 +9,11 @@ use Rattle.row_index.proofs.block.BlockPart.add.Goals as goal
 
 inserted : (c : goal.After-self-1) → c.insert.new.self.items ≡ with_entry c.args.entry c.args.self.now
 inserted c =
-    let absent : is_at c.sought-sought.result (slice_get c.args.self.now c.place_of-place.result) ≡ false = search rules in
+    let absent : is_at c.sought-sought.result (slice_get c.args.self.now c.place_for-place.result) ≡ false = search rules in
     c.in_ok-insert.ensures.items
-    ∙ ap (λ xs. insert xs c.place_of-place.result c.args.entry) c.self.view_is
-    ∙ ap (insert c.args.self.now c.place_of-place.result) (sym c.sought-sought.ensures)
-    ∙ sym (with_entry_new c.sought-sought.result c.args.self.now c.place_of-place.result c.place_of-place.ensures.within c.place_of-place.ensures.parted absent)
+    ∙ ap (λ xs. insert xs c.place_for-place.result c.args.entry) c.self.view_is
+    ∙ ap (insert c.args.self.now c.place_for-place.result) (sym c.sought-sought.ensures)
+    ∙ sym (with_entry_new c.sought-sought.result c.args.self.now c.place_for-place.result c.place_for-place.ensures.within c.place_for-place.ensures.parted absent)
     ∙ ap (λ entry. with_entry entry c.args.self.now) c.sought-sought.ensures
 
 pub invariant_of-self-then-not-has_at : goal.invariant_of-self-then-not-has_at
@@ -28,6 +28,6 @@ returns-in_ok-insert-clause-ok c = inserted c
 
 pub returns-else-not-has_at-clause-ok : goal.returns-else-not-has_at-clause-ok
 returns-else-not-has_at-clause-ok c =
-    let there : is_at c.sought-sought.result (slice_get c.args.self.now c.place_of-place.result) ≡ true = search rules in
-    sym (with_entry_there c.sought-sought.result c.args.self.now c.place_of-place.result c.place_of-place.ensures.within c.place_of-place.ensures.parted there)
+    let there : is_at c.sought-sought.result (slice_get c.args.self.now c.place_for-place.result) ≡ true = search rules in
+    sym (with_entry_there c.sought-sought.result c.args.self.now c.place_for-place.result c.place_for-place.ensures.within c.place_for-place.ensures.parted there)
     ∙ ap (λ entry. with_entry entry c.args.self.now) c.sought-sought.ensures

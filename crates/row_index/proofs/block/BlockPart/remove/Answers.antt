@@ -9,11 +9,11 @@ use Rattle.row_index.proofs.block.BlockPart.remove.Goals as goal
 
 pub returns-then-has_at : goal.returns-then-has_at
 returns-then-has_at c =
-    let there : is_at c.args.sought.now (slice_get c.args.self.now c.place_of-place.result) ≡ true = search rules in
+    let there : is_at c.args.sought.now (slice_get c.args.self.now c.place_for-place.result) ≡ true = search rules in
     let up = subst IsAscending c.self.view_is c.self.invariant.0 in
     c.remove.ensures.items
-    ∙ ap (λ xs. remove xs c.place_of-place.result) c.self.view_is
-    ∙ sym (without_entry_there (c.orders.ensures.sorts false false) c.args.sought.now c.args.self.now c.place_of-place.result up c.place_of-place.ensures.within c.place_of-place.ensures.parted there)
+    ∙ ap (λ xs. remove xs c.place_for-place.result) c.self.view_is
+    ∙ sym (without_entry_there (c.orders.ensures.sorts false false) c.args.sought.now c.args.self.now c.place_for-place.result up c.place_for-place.ensures.within c.place_for-place.ensures.parted there)
 
 pub invariant_of-self : goal.invariant_of-self
 invariant_of-self c =
@@ -24,6 +24,6 @@ invariant_of-self c =
 
 pub returns-else-has_at : goal.returns-else-has_at
 returns-else-has_at c =
-    let absent : is_at c.args.sought.now (slice_get c.args.self.now c.place_of-place.result) ≡ false = search rules in
+    let absent : is_at c.args.sought.now (slice_get c.args.self.now c.place_for-place.result) ≡ false = search rules in
     let up = subst IsAscending c.self.view_is c.self.invariant.0 in
-    sym (without_entry_absent (c.orders.ensures.sorts false false) c.args.sought.now c.args.self.now c.place_of-place.result up c.place_of-place.ensures.within c.place_of-place.ensures.parted absent)
+    sym (without_entry_absent (c.orders.ensures.sorts false false) c.args.sought.now c.args.self.now c.place_for-place.result up c.place_for-place.ensures.within c.place_for-place.ensures.parted absent)
