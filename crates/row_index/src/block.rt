@@ -1,4 +1,4 @@
-ghost use Rattle.std.specs.Prelude.{◌≡◌, ◌≤◌, true, false, [], length, slice_get};
+ghost use Rattle.std.specs.Prelude.{◌≡◌, ◌≤◌, true, false, length, slice_get};
 ghost use Rattle.std.specs.List.{prefix_len};
 ghost use Rattle.std.specs.List.Sorted.{IsPartitionPoint};
 ghost use Rattle.std.specs.Ordering.{is_lt};
@@ -15,10 +15,10 @@ use q_value::laws;
 use std::alloc::Global;
 use std::marker::Model;
 
-/// A block with more entries is halved. A vector that grows by doubling has room for one more.
-const MOST: usize = 31;
+/// A block with more entries is halved, just before its vector, which grows by doubling, would grow again.
+const MOST: usize = 63;
 
-/// Few enough entries that one can be put between them cheaply.
+/// A part that holds entries themselves, few enough that one is found and put between them cheaply.
 #[derive(Drop)]
 pub(crate) struct Block {
     /// The lead of the last entry, so that a search among blocks seldom goes into one.
@@ -141,8 +141,8 @@ impl Part for Block {
 
 /// How many of the first entries come before the one that is sought.
 ///
-/// They are looked at one after another: the processor fetches the next ones from memory while it waits for
-/// one, where a search by halves waits for each.
+/// They are looked at one after another, so that the processor fetches the next ones from memory while it
+/// waits for one. A search by halves would wait for each.
 fn lesser_of(entries: &[Stored], sought: &Sought<'_>) -> usize
     ensures { result ≡ prefix_len (λ entry. is_lt (entry_cmp entry sought.now)) entries.now }
 {

@@ -20,9 +20,8 @@ use std::marker::Model;
 
 /// The entries of an index: each once, in the order of their keys and then of their slots.
 ///
-/// They stand in groups of blocks, both of limited length, so that a search compares an entry with as
-/// many others as their number has binary digits, mostly by leads alone, and a change moves few entries
-/// and few blocks.
+/// They stand in blocks, and these in groups, both of limited length. A search finds the group and the
+/// block by halves, mostly by leads alone, and a change moves few entries and few blocks.
 #[derive(Drop)]
 pub struct Index {
     alloc: Global,

@@ -11,7 +11,7 @@ use crate::stored::{Sought, Stored};
 use q_base::NoMemory;
 use std::alloc::Global;
 
-/// Consecutive entries of an index in their order, none twice.
+/// Consecutive entries of an index in their order, none twice: a block of them, or parts of the level below.
 pub(crate) trait Part: Drop {
     /// Its entries.
     ghost entries: { Self → List IndexPlace };
@@ -23,7 +23,7 @@ pub(crate) trait Part: Drop {
     fn is_empty(&self) -> bool
         ensures { result ≡ (length (entries self.now) == 0) };
 
-    /// Tells whether it is to be halved, before a change of it costs more than that of two parts.
+    /// Tells whether it is to be halved, lest a change of it moves much. Only time hangs on this.
     fn is_long(&self) -> bool;
 
     /// Tells whether all its entries lie before the cut.

@@ -13,10 +13,11 @@ use q_value::laws;
 use std::alloc::Global;
 use std::marker::Model;
 
-/// Where there are more parts, they are halved.
+/// Of more parts two are made, each with half of them.
 const MOST: usize = 127;
 
-/// Parts one after another, none of them empty, as a part of the level above.
+/// Parts one after another, none of them empty, as a part of the level above: blocks make a group, and
+/// groups an index.
 #[derive(Drop)]
 pub(crate) struct Parts<P: Part> {
     parts: Vec<P>,
