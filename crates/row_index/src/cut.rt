@@ -37,6 +37,7 @@ impl Cut<'_> {
 }
 
 /// Where a key lies: before the range, in it or after it.
+#[inline(never)]
 pub(crate) fn key_side_of(range: &KeyRange, key: &Key) -> Ordering
     ensures { result ≡ key_side range.now key.now }
 {

@@ -30,6 +30,7 @@ pub(crate) fn compare_keys(left: &[Value], right: &[Value]) -> Ordering
 }
 
 /// The order of an entry and that of a key and a slot: by key, and then by slot.
+#[inline(never)]
 pub(crate) fn compare_entry(entry: &IndexPlace, key: &Key, slot: SlotId) -> Ordering
     ensures { result ≡ entry_cmp entry.now (entry_of key.now slot) }
 {
