@@ -88,6 +88,7 @@ impl Part for Block {
         self.entries.len() > MOST
     }
 
+    #[inline(always)]
     fn lies_before(&self, cut: &Cut<'_>) -> bool {
         laws::orders();
         match self.entries.last() {
