@@ -45,7 +45,7 @@ fn second_between(
 fn slots(alloc: Global, index: &Index, range: &KeyRange) -> Result<Vec<u64>, NoMemory> {
     let mut slots = Vec::new(alloc);
     let mut last = None;
-    for _turn in 0..2_000 {
+    for _turn in 0..10_000 {
         match index.after(range, last) {
             Some(entry) => {
                 slots.push(entry.slot.0)?;
@@ -123,10 +123,11 @@ fn entries_stand_in_order(rt: HostRuntime) -> Result<(), Fail> {
     Ok(())
 }
 
-const COUNT: u64 = 1_500;
+/// More than one group has room for.
+const COUNT: u64 = 9_000;
 
 fn number_key(alloc: Global, number: u64) -> Result<Key, NoMemory>
-    requires { number < 2000 }
+    requires { number < 10000 }
 {
     key(alloc, Value::Int8(number as i64), Value::Null)
 }
@@ -142,7 +143,7 @@ fn numbers(alloc: Global) -> Result<Index, NoMemory> {
 }
 
 fn remove_first(alloc: Global, index: &mut Index) -> Result<(), NoMemory> {
-    for number in 0..1_400 {
+    for number in 0..8_900 {
         index.remove(&number_key(alloc, number)?, SlotId(number));
     }
     Ok(())
@@ -153,8 +154,8 @@ fn many_entries_are_kept(rt: HostRuntime) -> Result<(), Fail> {
     let alloc = rt.alloc();
     let all = between(alloc, None, None);
     let mut index = numbers(alloc)?;
-    assert!(rt; slots(alloc, &index, &all)?.iter().copied().eq(0..1_500));
+    assert!(rt; slots(alloc, &index, &all)?.iter().copied().eq(0..9_000));
     remove_first(alloc, &mut index)?;
-    assert!(rt; slots(alloc, &index, &all)?.iter().copied().eq(1_400..1_500));
+    assert!(rt; slots(alloc, &index, &all)?.iter().copied().eq(8_900..9_000));
     Ok(())
 }

@@ -1,6 +1,6 @@
-mod Blocks
 mod Cuts
 mod Edits
+mod Joined
 mod Leads
 mod Lists
 mod Orders

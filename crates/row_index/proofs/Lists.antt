@@ -1,6 +1,6 @@
 -- Searches, additions and removals in ascending lists of entries, and in such lists cut into blocks.
-use Rattle.std.proofs.Common.{◌≡◌, ℕ, zero, suc, ◌-◌, ◌<◌, ◌≤◌, Bool, true, false, true≢false, not, ◌&&◌, cond, None, Some, Less, List, [], ◌∷◌, ◌++◌, length, take, drop, get_or, filter, find, refl, sym, ap, subst, arith}
-use Rattle.std.specs.List.{list_all, slice_get}
+use Rattle.std.proofs.Common.{◌≡◌, ℕ, zero, suc, ◌+◌, ◌-◌, ◌<◌, ◌≤◌, Bool, true, false, true≢false, not, ◌&&◌, cond, None, Some, Less, List, [], ◌∷◌, ◌++◌, length, take, drop, get_or, filter, find, refl, sym, ap, ◌∙◌, subst, arith}
+use Rattle.std.specs.List.{list_all, prefix_len, slice_get}
 use Rattle.std.specs.List.Sorted.{IsPartitionedBy, IsPartitionPoint}
 use Rattle.row_index.specs.declared.entries.IndexPlace.{IndexPlace}
 use Rattle.row_index.specs.Order.{entry_cmp}
@@ -83,6 +83,42 @@ partitioned p down (x ∷ xs) up zero zero d le lt e = e
 partitioned p down (x ∷ xs) up zero (suc j) d le lt e = down x (get_or xs j d) (each_at (λ y. entry_cmp x y ≡ Less) xs up.0 j d (omega arith)) e
 partitioned p down (x ∷ xs) up (suc i) zero d le lt e = absurd (omega arith)
 partitioned p down (x ∷ xs) up (suc i) (suc j) d le lt e = partitioned p down xs up.1 i j d (omega arith) (omega arith) e
+
+-- the first ones that pass are all that pass
+pub prefix_within : (p : IndexPlace → Bool) (xs : List IndexPlace) → prefix_len p xs ≤ length xs
+prefix_within p [] = omega arith
+prefix_within p (x ∷ xs) = at (p x) (prefix_within p xs)
+  where
+    at : (b : Bool) → prefix_len p xs ≤ length xs → cond b (1 + prefix_len p xs) 0 ≤ length (x ∷ xs)
+    at true later = omega arith
+    at false later = omega arith
+
+pub prefix_parted : (p : IndexPlace → Bool) → IsDownward p → (xs : List IndexPlace) → IsAscending xs → IsPartitionPoint (λ x. p x ≡ true) (λ x. p x ≡ false) xs (prefix_len p xs)
+prefix_parted p down [] up = (λ k d low high. absurd (omega arith), λ k d low high. absurd (omega arith))
+prefix_parted p down (x ∷ xs) up = at (p x) refl (prefix_parted p down xs up.1)
+  where
+    Parted : ℕ → Type 0
+    Parted n = IsPartitionPoint (λ y. p y ≡ true) (λ y. p y ≡ false) xs n
+
+    front : (n : ℕ) → p x ≡ true → Parted n → (k : ℕ) (d : IndexPlace) → k < 1 + n → p (get_or (x ∷ xs) k d) ≡ true
+    front n e later zero d high = e
+    front n e later (suc k) d high = later.0 k d (omega arith) (omega arith)
+
+    back : (n : ℕ) → Parted n → (k : ℕ) (d : IndexPlace) → 1 + n ≤ k → k < length (x ∷ xs) → p (get_or (x ∷ xs) k d) ≡ false
+    back n later zero d low high = absurd (omega arith)
+    back n later (suc k) d low high = later.1 k d (omega arith) (omega arith)
+
+    none : p x ≡ false → (k : ℕ) (d : IndexPlace) → k < length (x ∷ xs) → p (get_or (x ∷ xs) k d) ≡ false
+    none e zero d high = e
+    none e (suc k) d high = not_at (p (get_or xs k d)) refl
+      where
+        not_at : (b : Bool) → p (get_or xs k d) ≡ b → b ≡ false
+        not_at true f = absurd (true≢false (sym (down x (get_or xs k d) (each_at (λ y. entry_cmp x y ≡ Less) xs up.0 k d (omega arith)) f) ∙ e))
+        not_at false f = refl
+
+    at : (b : Bool) → p x ≡ b → Parted (prefix_len p xs) → IsPartitionPoint (λ y. p y ≡ true) (λ y. p y ≡ false) (x ∷ xs) (cond b (1 + prefix_len p xs) 0)
+    at true e later = (λ k d low high. front (prefix_len p xs) e later k d high, λ k d low high. back (prefix_len p xs) later k d low high)
+    at false e later = (λ k d low high. absurd (omega arith), λ k d low high. none e k d high)
 
 -- all pass where the last one does
 pub all_by_last : (p : IndexPlace → Bool) → IsDownward p → (xs : List IndexPlace) → IsAscending xs → (last : IndexPlace) → slice_get xs (length xs - 1) ≡ Some last → p last ≡ list_all p xs

@@ -30,6 +30,11 @@ less_is Less e = refl
 less_is Equal e = absurd (true≢false (sym e))
 less_is Greater e = absurd (true≢false (sym e))
 
+pub greater_is : (r : Ordering) → is_gt r ≡ true → r ≡ Greater
+greater_is Less e = absurd (true≢false (sym e))
+greater_is Equal e = absurd (true≢false (sym e))
+greater_is Greater e = refl
+
 pub greatest_rank : (r : Ordering) → ordering_index r ≤ 2
 greatest_rank Less = omega arith
 greatest_rank Equal = omega arith

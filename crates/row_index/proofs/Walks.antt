@@ -8,7 +8,7 @@ use Rattle.row_index.specs.declared.entries.KeyRange.{KeyRange}
 use Rattle.row_index.specs.Order.{value_cmp, entry_cmp, is_past}
 use Rattle.row_index.specs.Ranges.{entries_past, is_next, is_within}
 use Rattle.row_index.specs.Entries.{Each, IsAscending, by_order, has_entry, with_entry, without_entry}
-use Rattle.row_index.proofs.Orders.{entries_total, tied_both}
+use Rattle.row_index.proofs.Orders.{entries_total, greater_is, tied_both}
 use Rattle.row_index.proofs.Lists.{both, each_map}
 
 module _ {X : Type 0} where
@@ -35,11 +35,6 @@ module _ {X : Type 0} where
 and_false : (b : Bool) → b && false ≡ false
 and_false true = refl
 and_false false = refl
-
-greater_is : (r : Ordering) → is_gt r ≡ true → r ≡ Greater
-greater_is Less e = absurd (true≢false (sym e))
-greater_is Equal e = absurd (true≢false (sym e))
-greater_is Greater e = refl
 
 module _ (o : IsTotalOrder value_cmp) where
   abbrev order : IsTotalOrder entry_cmp

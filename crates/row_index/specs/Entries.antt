@@ -1,4 +1,4 @@
-use Rattle.std.specs.Prelude.{◌≡◌, ◌<◌, Bool, false, not, Option, None, Some, List, [], ◌∷◌, length, filter}
+use Rattle.std.specs.Prelude.{◌≡◌, ℕ, zero, suc, ◌<◌, Bool, false, not, Option, None, Some, List, [], ◌∷◌, ◌++◌, length, filter}
 use Rattle.std.specs.List.{flat_map, list_any}
 use Rattle.std.specs.declared.cmp.Ordering.{Ordering}
 use Rattle.std.specs.declared.cmp.Ordering.TheVariants.{Less, Equal, Greater}
@@ -39,9 +39,24 @@ abbrev pub is_at : IndexPlace → Option IndexPlace → Bool
 is_at entry None = false
 is_at entry (Some found) = is_eq (entry_cmp found entry)
 
--- lists of entries, one after another
-abbrev pub joined : List (List IndexPlace) → List IndexPlace
-joined blocks = flat_map (λ block. block) blocks
+-- the entries of parts, one after another
+abbrev pub joined : {X : Type 0} → (X → List IndexPlace) → List X → List IndexPlace
+joined entries parts = flat_map entries parts
+
+-- the same, where the entries of the part at a place are changed
+abbrev pub joined_with : {X : Type 0} → (X → List IndexPlace) → (List IndexPlace → List IndexPlace) → List X → ℕ → List IndexPlace
+joined_with entries change [] at = []
+joined_with entries change (part ∷ parts) zero = change (entries part) ++ joined entries parts
+joined_with entries change (part ∷ parts) (suc at) = entries part ++ joined_with entries change parts at
 
 abbrev pub IsFilled : List IndexPlace → Type 0
-IsFilled block = 0 < length block
+IsFilled entries = 0 < length entries
+
+abbrev pub AreFilled : {X : Type 0} → (X → List IndexPlace) → List X → Type 0
+AreFilled entries parts = Each (λ part. IsFilled (entries part)) parts
+
+-- the entries were cut into two lists, neither of them empty
+pub record IsHalved (whole front back : List IndexPlace) : Type 0 where
+  pub same : whole ≡ front ++ back
+  pub front_filled : IsFilled front
+  pub back_filled : IsFilled back

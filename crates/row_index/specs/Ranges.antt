@@ -70,3 +70,8 @@ next_side range next = if has_edge range then edged_side range next else Equal
 
 abbrev pub key_side : KeyRange → List Value → Ordering
 key_side range key = ordering_then (keys_cmp (take (length range.equal) key) range.equal) (next_side range (slice_get key (length range.equal)))
+
+-- an entry, where its key lies in the range
+abbrev pub next_of : KeyRange → Option IndexPlace → Option IndexPlace
+next_of range None = None
+next_of range (Some entry) = if is_eq (key_side range entry.key) then Some entry else None

@@ -1,19 +1,24 @@
-ghost use Rattle.std.specs.Prelude.{◌≡◌, ◌≤◌, true, false, not, [], ◌∷◌, ◌++◌, length, take, drop, find, slice_get, IfOk, OnOk, OnErr};
-ghost use Rattle.std.specs.List.{list_all};
+ghost use Rattle.std.specs.Prelude.{◌≡◌, ◌≤◌, true, false, length, slice_get};
+ghost use Rattle.std.specs.List.{prefix_len};
 ghost use Rattle.std.specs.List.Sorted.{IsPartitionPoint};
-ghost use Rattle.std.specs.Option.{option_copied};
+ghost use Rattle.std.specs.Ordering.{is_lt};
+ghost use Rattle.row_index.specs.Order.{entry_cmp};
 ghost use Rattle.row_index.specs.Cuts.{is_before};
-ghost use Rattle.row_index.specs.Entries.{is_at, with_entry, without_entry};
+ghost use Rattle.row_index.specs.Entries.{is_at};
 
 use crate::IndexPlace;
 use crate::cut::Cut;
+use crate::part::Part;
 use crate::stored::{Sought, Stored, last_lead_of};
 use q_base::NoMemory;
 use q_value::laws;
 use std::alloc::Global;
 use std::marker::Model;
 
-/// Consecutive entries in their order, none twice: few enough that one can be put between them cheaply.
+/// A block with more entries is halved, just before its vector, which grows by doubling, would grow again.
+const MOST: usize = 63;
+
+/// A part that holds entries themselves, few enough that one is found and put between them cheaply.
 #[derive(Drop)]
 pub(crate) struct Block {
     /// The lead of the last entry, so that a search among blocks seldom goes into one.
@@ -35,54 +40,6 @@ impl Model for Block {
 }
 
 impl Block {
-    /// The block without entries.
-    pub(crate) fn new(alloc: Global) -> Block
-        ensures { result ≡ [] }
-    {
-        Block {
-            last_lead: i64::MIN,
-            entries: Vec::new(alloc),
-        }
-    }
-
-    /// The block of one entry.
-    pub(crate) fn of_entry(alloc: Global, entry: Stored) -> Result<Block, NoMemory>
-        ensures { IfOk result (λ block. block ≡ entry ∷ []) }
-    {
-        let last_lead = entry.lead();
-        let mut entries = Vec::new(alloc);
-        entries.push(entry)?;
-        Ok(Block { last_lead, entries })
-    }
-
-    /// How many entries it has.
-    pub(crate) fn len(&self) -> usize
-        ensures { result ≡ length self.now }
-    {
-        self.entries.len()
-    }
-
-    /// Tells whether all its entries lie before the cut.
-    pub(crate) fn lies_before(&self, cut: &Cut<'_>) -> bool
-        ensures { result ≡ list_all (is_before cut.now) self.now }
-    {
-        laws::orders();
-        match self.entries.last() {
-            Some(last) => cut.comes_after(self.last_lead, last.entry()),
-            None => true,
-        }
-    }
-
-    /// The first entry that doesn't lie before the cut.
-    pub(crate) fn first_from(&self, cut: &Cut<'_>) -> Option<&IndexPlace>
-        ensures { option_copied result ≡ find (λ entry. not (is_before cut.now entry)) self.now }
-    {
-        match self.entries.get(self.place_of(cut)) {
-            Some(stored) => Some(stored.entry()),
-            None => None,
-        }
-    }
-
     /// How many entries lie before the cut.
     fn place_of(&self, cut: &Cut<'_>) -> usize
         ensures within { result ≤ length self.now }
@@ -93,46 +50,13 @@ impl Block {
             .partition_point(|stored| cut.comes_after(stored.lead(), stored.entry()))
     }
 
-    /// Puts the entry at its place, where it isn't there yet.
-    pub(crate) fn add(&mut self, entry: Stored) -> Result<(), NoMemory>
-        ensures ok { OnOk result (self.new ≡ with_entry entry self.old) }
-        ensures err { OnErr result (self.new ≡ self.old) }
+    /// How many entries come before the one that is sought.
+    fn place_for(&self, sought: &Sought<'_>) -> usize
+        ensures within { result ≤ length self.now }
+        ensures parted { IsPartitionPoint (λ entry. is_lt (entry_cmp entry sought.now) ≡ true) (λ entry. is_lt (entry_cmp entry sought.now) ≡ false) self.now result }
     {
         laws::orders();
-        let sought = entry.sought();
-        let place = self.place_of(&Cut::Entry(&sought));
-        if !self.has_at(place, &sought) {
-            self.entries.insert(place, entry)?;
-            self.last_lead = last_lead_of(self.entries.as_slice());
-        }
-        Ok(())
-    }
-
-    /// Takes the entry out, where it is there.
-    pub(crate) fn remove(&mut self, sought: &Sought<'_>)
-        ensures { self.new ≡ without_entry sought.now self.old }
-    {
-        laws::orders();
-        let place = self.place_of(&Cut::Entry(sought));
-        if self.has_at(place, sought) {
-            let _ = self.entries.remove(place);
-            self.last_lead = last_lead_of(self.entries.as_slice());
-        }
-    }
-
-    /// The entries from a place on, which it gives up, or nothing where memory is refused.
-    pub(crate) fn split_off(&mut self, place: usize) -> Result<Block, NoMemory>
-        requires { place ≤ length self.old }
-        ensures front { OnOk result (self.new ≡ take place self.old) }
-        ensures back { IfOk result (λ back. back ≡ drop place self.old) }
-        ensures err { OnErr result (self.new ≡ self.old) }
-    {
-        let entries = self.entries.split_off(place)?;
-        self.last_lead = last_lead_of(self.entries.as_slice());
-        Ok(Block {
-            last_lead: last_lead_of(entries.as_slice()),
-            entries,
-        })
+        lesser_of(self.entries.as_slice(), sought)
     }
 
     /// Tells whether the entry stands at a place.
@@ -144,4 +68,89 @@ impl Block {
             None => false,
         }
     }
+}
+
+impl Part for Block {
+    ghost entries = { λ block. block };
+
+    fn empty(alloc: Global) -> Block {
+        Block {
+            last_lead: i64::MIN,
+            entries: Vec::new(alloc),
+        }
+    }
+
+    fn is_empty(&self) -> bool {
+        self.entries.is_empty()
+    }
+
+    fn is_long(&self) -> bool {
+        self.entries.len() > MOST
+    }
+
+    #[inline(always)]
+    fn lies_before(&self, cut: &Cut<'_>) -> bool {
+        laws::orders();
+        match self.entries.last() {
+            Some(last) => cut.comes_after(self.last_lead, last.entry()),
+            None => true,
+        }
+    }
+
+    fn first_from(&self, cut: &Cut<'_>) -> Option<&IndexPlace> {
+        match self.entries.get(self.place_of(cut)) {
+            Some(stored) => Some(stored.entry()),
+            None => None,
+        }
+    }
+
+    fn add(&mut self, _alloc: Global, entry: Stored) -> Result<(), NoMemory> {
+        laws::orders();
+        let sought = entry.sought();
+        let place = self.place_for(&sought);
+        if !self.has_at(place, &sought) {
+            self.entries.insert(place, entry)?;
+            self.last_lead = last_lead_of(self.entries.as_slice());
+        }
+        Ok(())
+    }
+
+    fn remove(&mut self, sought: &Sought<'_>) {
+        laws::orders();
+        let place = self.place_for(sought);
+        if self.has_at(place, sought) {
+            let _ = self.entries.remove(place);
+            self.last_lead = last_lead_of(self.entries.as_slice());
+        }
+    }
+
+    fn halve(&mut self) -> Option<Block> {
+        let half = self.entries.len() / 2;
+        if half == 0 {
+            return None;
+        }
+        let Ok(entries) = self.entries.split_off(half) else {
+            return None;
+        };
+        self.last_lead = last_lead_of(self.entries.as_slice());
+        Some(Block {
+            last_lead: last_lead_of(entries.as_slice()),
+            entries,
+        })
+    }
+}
+
+/// How many of the first entries come before the one that is sought.
+///
+/// They are looked at one after another, so that the processor fetches the next ones from memory while it
+/// waits for one. A search by halves would wait for each.
+fn lesser_of(entries: &[Stored], sought: &Sought<'_>) -> usize
+    ensures { result ≡ prefix_len (λ entry. is_lt (entry_cmp entry sought.now)) entries.now }
+{
+    for (place, stored) in entries.iter().enumerate() {
+        if !sought.order_of(stored.lead(), stored.entry()).is_lt() {
+            return place;
+        }
+    }
+    entries.len()
 }

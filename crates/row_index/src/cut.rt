@@ -4,7 +4,7 @@ ghost use Rattle.row_index.specs.Ranges.{is_above, is_below, key_side, next_side
 ghost use Rattle.row_index.specs.Cuts.{is_before};
 ghost use Rattle.row_index.specs.Leads.{key_lead};
 
-use crate::order::{comes_after, compare_keys, compare_values};
+use crate::order::{compare_keys, compare_values};
 use crate::stored::Sought;
 use crate::{Edge, IndexPlace, Key, KeyRange};
 use q_value::Value;
@@ -15,26 +15,29 @@ use std::cmp::Ordering;
 pub(crate) enum Cut<'a> {
     /// Before an entry.
     Entry(&'a Sought<'a>),
-    /// Before the entries of a range, and of them before those past an entry.
-    Rest(&'a KeyRange, Option<&'a IndexPlace>),
+    /// Behind an entry.
+    Past(&'a Sought<'a>),
+    /// Before the entries of a range.
+    Range(&'a KeyRange),
 }
 
 impl Cut<'_> {
     /// Tells whether `entry`, whose key has this lead, lies before the cut.
+    #[inline(always)]
     pub(crate) fn comes_after(&self, lead: i64, entry: &IndexPlace) -> bool
         requires { lead ≡ key_lead entry.now.key }
         ensures { result ≡ is_before self.now entry.now }
     {
         match self {
             Cut::Entry(sought) => sought.order_of(lead, entry).is_lt(),
-            Cut::Rest(range, last) => {
-                key_side_of(range, &entry.key).is_lt() || !comes_after(entry, *last)
-            }
+            Cut::Past(sought) => !sought.order_of(lead, entry).is_gt(),
+            Cut::Range(range) => key_side_of(range, &entry.key).is_lt(),
         }
     }
 }
 
 /// Where a key lies: before the range, in it or after it.
+#[inline(never)]
 pub(crate) fn key_side_of(range: &KeyRange, key: &Key) -> Ordering
     ensures { result ≡ key_side range.now key.now }
 {

@@ -8,6 +8,8 @@ mod index;
 pub mod laws;
 mod lead;
 mod order;
+mod part;
+mod parts;
 mod stored;
 
 pub use entries::{Edge, IndexPlace, Key, KeyRange};

@@ -1,6 +1,5 @@
 ghost use Rattle.std.specs.Prelude.{◌≡◌};
-ghost use Rattle.std.specs.Option.{option_copied};
-ghost use Rattle.row_index.specs.Order.{entry_cmp, entry_of, is_past, keys_cmp, value_cmp};
+ghost use Rattle.row_index.specs.Order.{entry_cmp, entry_of, keys_cmp, value_cmp};
 
 use crate::{IndexPlace, Key};
 use q_base::SlotId;
@@ -31,18 +30,9 @@ pub(crate) fn compare_keys(left: &[Value], right: &[Value]) -> Ordering
 }
 
 /// The order of an entry and that of a key and a slot: by key, and then by slot.
+#[inline(never)]
 pub(crate) fn compare_entry(entry: &IndexPlace, key: &Key, slot: SlotId) -> Ordering
     ensures { result ≡ entry_cmp entry.now (entry_of key.now slot) }
 {
     compare_keys(entry.key.as_slice(), key.as_slice()).then(entry.slot.cmp(&slot))
-}
-
-/// Tells whether an entry comes after `last`, if that is given.
-pub(crate) fn comes_after(entry: &IndexPlace, last: Option<&IndexPlace>) -> bool
-    ensures { result ≡ is_past (option_copied last.entry) entry.now }
-{
-    match last {
-        None => true,
-        Some(last) => compare_entry(entry, &last.key, last.slot).is_gt(),
-    }
 }

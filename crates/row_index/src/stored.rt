@@ -96,6 +96,7 @@ impl<'a> Sought<'a> {
     }
 
     /// The order of an entry, whose key has this lead, and the one that is sought.
+    #[inline(always)]
     pub(crate) fn order_of(&self, lead: i64, entry: &IndexPlace) -> Ordering
         requires { lead ≡ key_lead entry.now.key }
         ensures { result ≡ entry_cmp entry.now self.now }

@@ -1,44 +1,31 @@
-use Rattle.std.proofs.Common.{◌≡◌, true, false, None, Some, find, sym, ap, ◌∙◌, subst, rules}
+use Rattle.std.proofs.Common.{◌≡◌, false, Some, find, ap, ◌∙◌, rules}
 use Rattle.std.specs.Option.{option_copied}
-use Rattle.std.specs.Ordering.{is_eq}
-use Rattle.row_index.specs.Entries.{IsAscending, joined}
+use Rattle.std.specs.Ordering.{is_lt}
+use Rattle.row_index.specs.declared.entries.IndexPlace.{IndexPlace}
 use Rattle.row_index.specs.Ranges.{is_next, key_side}
-use Rattle.row_index.proofs.Cuts.{next_found, next_left, next_of, next_taken}
+use Rattle.row_index.proofs.Cuts.{IsEarly, next_first, next_past}
 use Rattle.row_index.proofs.Walks.{walked}
 use Rattle.row_index.proofs.index.Index.after.Goals as goal
+use Rattle.row_index.proofs.index.Index.after.Goals.{in_default-via-in-Some+else-not-is_lt, in_default-via-in_default}
 
-pub returns-in_err-next-clause-first : goal.returns-in_err-next-clause-first
-returns-in_err-next-clause-first c =
-    let up = subst IsAscending (sym (ap joined c.as_slice.ensures.value)) c.self.invariant.0 in
-    let none : option_copied c.from_residual.result ≡ None = search rules in
-    none
-    ∙ ap (next_of c.args.range.now) c.in_err-next.ensures
-    ∙ next_found (c.orders.ensures.sorts false false) c.args.range.now (option_copied c.args.last) (joined c.as_slice.result.now) up
-    ∙ ap (find (is_next c.args.range.now (option_copied c.args.last))) (ap joined c.as_slice.ensures.value ∙ c.self.view_is)
+pub returns-in-Some-clause-first : goal.returns-in-Some-clause-first
+returns-in-Some-clause-first c =
+    let within : is_lt (key_side c.args.range.now c.in-Some.last.now.key) ≡ false = search rules in
+    let given : Some c.in-Some.last.now ≡ option_copied c.args.last = search rules in
+    c.first_of.ensures.first
+    ∙ next_past (c.orders.ensures.sorts false false) c.args.range.now c.new.result (ap (λ (last : IndexPlace). is_lt (key_side c.args.range.now last.key)) c.new.ensures ∙ within) c.args.self.now c.first_of.ensures.ascending
+    ∙ ap (λ last. find (is_next c.args.range.now last) c.args.self.now) (ap Some c.new.ensures ∙ given)
 
-pub returns-then-is_eq-clause-first : goal.returns-then-is_eq-clause-first
-returns-then-is_eq-clause-first c =
-    let up = subst IsAscending (sym (ap joined c.as_slice.ensures.value)) c.self.invariant.0 in
-    let within : is_eq (key_side c.args.range.now c.in_ok-next.next.now.key) ≡ true = search rules in
-    next_taken c.args.range.now c.in_ok-next.next.now within
-    ∙ ap (next_of c.args.range.now) c.in_ok-next.ensures
-    ∙ next_found (c.orders.ensures.sorts false false) c.args.range.now (option_copied c.args.last) (joined c.as_slice.result.now) up
-    ∙ ap (find (is_next c.args.range.now (option_copied c.args.last))) (ap joined c.as_slice.ensures.value ∙ c.self.view_is)
+pub returns-in_default-clause-first : goal.returns-in_default-clause-first
+returns-in_default-clause-first c =
+    let early : IsEarly c.args.range.now (option_copied c.args.last) = elim c.in_default.branch [ in_default-via-in-Some+else-not-is_lt w ↦ search rules | in_default-via-in_default w ↦ search rules ] in
+    c.first_of-in_default.ensures.first
+    ∙ next_first (c.orders.ensures.sorts false false) c.args.range.now (option_copied c.args.last) early c.args.self.now c.first_of-in_default.ensures.ascending
 
-pub returns-else-is_eq-clause-first : goal.returns-else-is_eq-clause-first
-returns-else-is_eq-clause-first c =
-    let up = subst IsAscending (sym (ap joined c.as_slice.ensures.value)) c.self.invariant.0 in
-    let beyond : is_eq (key_side c.args.range.now c.in_ok-next.next.now.key) ≡ false = search rules in
-    next_left c.args.range.now c.in_ok-next.next.now beyond
-    ∙ ap (next_of c.args.range.now) c.in_ok-next.ensures
-    ∙ next_found (c.orders.ensures.sorts false false) c.args.range.now (option_copied c.args.last) (joined c.as_slice.result.now) up
-    ∙ ap (find (is_next c.args.range.now (option_copied c.args.last))) (ap joined c.as_slice.ensures.value ∙ c.self.view_is)
+pub returns-in-Some-clause-rest : goal.returns-in-Some-clause-rest
+returns-in-Some-clause-rest c =
+    walked (c.orders.ensures.sorts false false) c.args.range.now (option_copied c.args.last) c.args.self.now c.first_of.ensures.ascending (option_copied c.first_of.result) (returns-in-Some-clause-first c)
 
-pub returns-in_err-next-clause-rest : goal.returns-in_err-next-clause-rest
-returns-in_err-next-clause-rest c = walked (c.orders.ensures.sorts false false) c.args.range.now (option_copied c.args.last) c.args.self.now (subst IsAscending c.self.view_is c.self.invariant.0) (option_copied c.from_residual.result) (returns-in_err-next-clause-first c)
-
-pub returns-then-is_eq-clause-rest : goal.returns-then-is_eq-clause-rest
-returns-then-is_eq-clause-rest c = walked (c.orders.ensures.sorts false false) c.args.range.now (option_copied c.args.last) c.args.self.now (subst IsAscending c.self.view_is c.self.invariant.0) (Some c.in_ok-next.next.now) (returns-then-is_eq-clause-first c)
-
-pub returns-else-is_eq-clause-rest : goal.returns-else-is_eq-clause-rest
-returns-else-is_eq-clause-rest c = walked (c.orders.ensures.sorts false false) c.args.range.now (option_copied c.args.last) c.args.self.now (subst IsAscending c.self.view_is c.self.invariant.0) None (returns-else-is_eq-clause-first c)
+pub returns-in_default-clause-rest : goal.returns-in_default-clause-rest
+returns-in_default-clause-rest c =
+    walked (c.orders.ensures.sorts false false) c.args.range.now (option_copied c.args.last) c.args.self.now c.first_of-in_default.ensures.ascending (option_copied c.first_of-in_default.result) (returns-in_default-clause-first c)
