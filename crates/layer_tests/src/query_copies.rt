@@ -1,8 +1,9 @@
-use q_base::{ColId, ListOf, NoMemory, ObjId, Str};
+use q_base::{ColId, IdList, ListOf, NoMemory, ObjId, Str};
 use q_value::{SqlType, Value};
 use query_tree::{
-    Aggregate, AggregatePlace, ArithmeticOp, AssignedColumn, Assignment, ColumnPlace, CompareOp,
-    Copies, Item, Query, Relation, ResultColumn, ResultType, SortKey, Target, TargetList, direct,
+    Aggregate, AggregateList, AggregatePlace, ArithmeticOp, AssignedColumn, Assignment,
+    ColumnPlace, CompareOp, CondList, Copies, Item, ItemList, Query, Relation, ResultColumn,
+    ResultType, SortKey, SortKeyList, Target, TargetList, direct,
 };
 use sqlite_items::{Boxed, Items};
 use std::alloc::Global;
@@ -85,29 +86,66 @@ fn empty(alloc: Global) -> Query {
     }
 }
 
-fn sample(alloc: Global) -> Result<Query, NoMemory> {
-    let mut query = empty(alloc);
-    query.items.push(Item::Table(relation(alloc, 7)?))?;
-    query.items.push(Item::View(relation(alloc, 3)?))?;
+fn items(alloc: Global) -> Result<ItemList, NoMemory> {
+    let mut items = Items::new(alloc);
+    items.push(Item::Table(relation(alloc, 7)?))?;
+    items.push(Item::View(relation(alloc, 3)?))?;
     let block = Boxed::new(alloc, empty(alloc))?;
-    query.items.push(Item::Derived(relation(alloc, 5)?, block))?;
-    query.items.push(Item::Table(relation(alloc, 3)?))?;
-    query.conds.push(condition(alloc)?)?;
-    query.aggregates.push(Aggregate::CountRows)?;
-    query.aggregates.push(Aggregate::Max(column()))?;
-    query.order.push(SortKey {
+    items.push(Item::Derived(relation(alloc, 5)?, block))?;
+    items.push(Item::Table(relation(alloc, 3)?))?;
+    Ok(items)
+}
+
+fn conds(alloc: Global) -> Result<CondList, NoMemory> {
+    let mut conds = ListOf::new(alloc);
+    conds.push(condition(alloc)?)?;
+    Ok(conds)
+}
+
+fn aggregates(alloc: Global) -> Result<AggregateList, NoMemory> {
+    let mut aggregates = ListOf::new(alloc);
+    aggregates.push(Aggregate::CountRows)?;
+    aggregates.push(Aggregate::Max(column()))?;
+    Ok(aggregates)
+}
+
+fn key() -> SortKey {
+    SortKey {
         target: column(),
         desc: true,
         nulls_first: false,
-    })?;
-    Ok(query)
+    }
+}
+
+fn order(alloc: Global) -> Result<SortKeyList, NoMemory> {
+    let mut order = ListOf::new(alloc);
+    order.push(key())?;
+    Ok(order)
+}
+
+fn sample(alloc: Global) -> Result<Query, NoMemory> {
+    Ok(Query {
+        items: items(alloc)?,
+        conds: conds(alloc)?,
+        aggregates: aggregates(alloc)?,
+        order: order(alloc)?,
+        ..empty(alloc)
+    })
+}
+
+fn named(alloc: Global) -> Result<IdList, NoMemory> {
+    direct(alloc, &sample(alloc)?.copy(alloc)?)
 }
 
 #[test]
 fn queries_are_copied(rt: HostRuntime) -> Result<(), Fail> {
-    let query = sample(rt.alloc())?.copy(rt.alloc())?;
-    let ids = direct(rt.alloc(), &query)?;
+    let ids = named(rt.alloc())?;
     assert_eq!(rt; ids.as_slice(), [ObjId(3), ObjId(5), ObjId(7)].as_slice());
+    Ok(())
+}
+
+#[test]
+fn conditions_are_copied(rt: HostRuntime) -> Result<(), Fail> {
     let cond = condition(rt.alloc())?.copy(rt.alloc())?;
     assert!(rt; cond.is_fallible());
     assert_eq!(rt; cond.kind(), SqlType::Bool);
