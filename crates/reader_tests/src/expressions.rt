@@ -50,31 +50,27 @@ const READ: [(&str, &str); 34] = [
 ];
 
 /// Texts at whose first token no expression starts.
-const REFUSED: [&str; 14] = [
-    "",
-    "select",
-    "a.",
-    "a. select",
-    "(a",
-    "()",
-    "count(",
-    "count(*",
-    "a in ()",
-    "a in 1",
-    "a between 1 or 2",
-    "not",
-    "a not 1",
-    "a is 1",
-];
+const REFUSED: [&str; 5] = ["", "select", "(a", "()", "not"];
 
-/// Texts, and how many of their tokens are an expression.
-const FRONT: [(&str, usize); 6] = [
+/// Texts, and how many of their tokens are the longest expression.
+const FRONT: [(&str, usize); 17] = [
     ("a b", 1),
     ("a, b", 1),
     ("a = b = c", 3),
     ("a is null is null", 3),
     ("a = 1 order by b", 3),
     ("f(a)(b)", 4),
+    ("1 + )", 1),
+    ("a.", 1),
+    ("a. select", 1),
+    ("count(*", 1),
+    ("a in ()", 1),
+    ("a between 1 or 2", 1),
+    ("a not 1", 1),
+    ("a is 1", 1),
+    ("1 + 2 * (3 -", 3),
+    ("a or b and not", 3),
+    ("a = 1 + f(", 5),
 ];
 
 /// Texts, and their load.

@@ -1,5 +1,5 @@
 -- Expressions are read exactly where they are spelt.
-use Rattle.std.proofs.Common.{◌≡◌, inl, inr, ⊎_elim, ℕ, zero, suc, ◌≤◌, Bool, true, false, cond, not, ◌||◌, List, [], ◌∷◌, ◌++◌, length, Option, Some, None, codes, refl, sym, ap, subst, ◌∙◌, arith}
+use Rattle.std.proofs.Common.{◌≡◌, inl, inr, ⊎_elim, ℕ, zero, suc, ◌+◌, ◌≤◌, Bool, true, false, cond, not, ◌||◌, List, [], ◌∷◌, ◌++◌, length, Option, Some, None, codes, refl, sym, ap, subst, ◌∙◌, arith}
 use Rattle.std.specs.Prelude.{is_some}
 use Rattle.sql_tokens.specs.declared.token.Token.{Token}
 use Rattle.sql_tokens.specs.declared.token.Token.TheVariants as token
@@ -349,6 +349,10 @@ agrees-nested (suc n) zero level = record {
 agrees-nested (suc n) (suc d) Whole = agrees-where (λ more. omega arith) (agrees-disjunction (spec.nested n) (grammar.within d) (agrees-nested n d Whole) (agrees-nested n d Negated) (agrees-nested n d Signed))
 agrees-nested (suc n) (suc d) Negated = agrees-where (λ more. omega arith) (agrees-negation (spec.nested n) (grammar.within d) (agrees-nested n d Whole) (agrees-nested n d Negated) (agrees-nested n d Signed))
 agrees-nested (suc n) (suc d) Signed = agrees-where (λ more. omega arith) (agrees-signed (spec.nested n) (grammar.within d) (agrees-nested n d Whole) (agrees-nested n d Negated) (agrees-nested n d Signed))
+
+-- what is spelt has a token
+pub within-takes : (d : ℕ) (level : Level) (ts : Tokens) (x : Expr) (us : Tokens) → grammar.within d level ts x us → 1 + length us ≤ length ts
+within-takes d level = (agrees-nested 0 d level).takes
 
 agrees-at : (n d : ℕ) → Agrees (n ≤ d) (suc n) (spec.disjunction (spec.nested n)) (grammar.disjunction (grammar.within d)) 1 expression_heads operators
 agrees-at n d = agrees-disjunction (spec.nested n) (grammar.within d) (agrees-nested n d Whole) (agrees-nested n d Negated) (agrees-nested n d Signed)

@@ -1,5 +1,6 @@
 pub mod Agreement
 pub mod ExpressionAgreement
+pub mod Framing
 pub mod Heads
 pub mod LevelLemmas
 pub mod NameLemmas
@@ -8,4 +9,4 @@ pub mod Turns
 pub mod Leaving
 pub mod ListAgreement
 pub mod TokenKinds
-pub mod Slices
+pub mod Longest

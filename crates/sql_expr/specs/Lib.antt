@@ -1,3 +1,4 @@
+pub mod Ended
 pub mod Expressions
 pub mod Grammar
 pub mod Levels

@@ -1,47 +1,104 @@
-ghost use Rattle.std.specs.Prelude.{◌≡◌, ◌≤◌, [], Some, None, length, drop, true, IfOk, MatchResult};
+ghost use Rattle.std.specs.Prelude.{◌≡◌, ◌≤◌, [], length, drop, IfOk, IfErr};
 ghost use Rattle.q_base.specs.Stops.{StopsBy};
 ghost use Rattle.sql_expr.specs.Load.{load_of};
 ghost use Rattle.sql_tree.specs.declared.expr.Expr.{Expr};
 ghost use Rattle.sql_expr.specs.Reading.{Tokens};
 ghost use Rattle.sql_expr.specs.Expressions as spec;
-ghost use Rattle.sql_expr.specs.Grammar.{is_ended};
+ghost use Rattle.sql_expr.specs.Ended.{where_ended, IsToldOf, IsLongest};
 ghost use Rattle.sql_expr.specs.Grammar as grammar;
 
 use crate::{Cursor, expression};
-use q_base::{Code, Stop};
-use sql_tokens::Token;
+use q_base::{Code, NoMemory, Stop, refusal};
+use sql_tokens::{Sign, Token};
 use sql_tree::Expr;
 use std::alloc::Global;
 
-/// The expression that starts at token `at`, and the number of the token behind it. One behind which no operator comes
-/// is read, so 42601 comes only where none such starts: an expression goes as far as its operators, and `1 + )` is none.
+/// The longest expression that starts at token `at`, and the number of the token behind it: of `1 + )` that is `1`.
+/// 42601 exactly where none starts there. It takes one reading more for each operator behind the expression.
 pub fn read_expr(alloc: Global, tokens: &[Token], at: usize) -> Result<(Expr, usize), Stop>
     requires load { load_of tokens.now ≤ 200 }
     requires within { at ≤ length tokens.now }
-    ensures spelt { IfOk result (λ read. grammar.expression (drop at tokens.now) read.0 (drop read.1 tokens.now)) }
-    ensures only { (expr : Expr) (behind : Tokens) → grammar.expression (drop at tokens.now) expr behind → is_ended behind ≡ true → MatchResult result
-        (λ read. (read.0 ≡ expr) × (drop read.1 tokens.now ≡ behind))
-        (StopsBy (λ error. ⊥)) }
-    ensures exact { MatchResult result
-        (λ read. (read.1 ≤ length tokens.now)
-        × (spec.expression (drop at tokens.now) ≡ Some (read.0, drop read.1 tokens.now)))
-        (StopsBy (λ error. (error ≡ record { code = Code.SyntaxError; args = [] })
-        × (spec.expression (drop at tokens.now) ≡ None))) }
+    ensures longest { IfOk result (λ read. (read.1 ≤ length tokens.now) × grammar.longest (drop at tokens.now) read.0 (drop read.1 tokens.now)) }
+    ensures none { IfErr result (StopsBy (λ error. (error ≡ record { code = Code.SyntaxError; args = [] })
+        × ((expr : Expr) (behind : Tokens) → grammar.expression (drop at tokens.now) expr behind → ⊥))) }
 {
-    read_at(alloc, tokens, at)
+    match longest(alloc, &tokens[at..])? {
+        Some((expr, length)) => Ok((expr, at + length)),
+        None => Err(refusal(alloc, Code::SyntaxError)),
+    }
 }
 
-/// The same as the reading function has it.
-fn read_at(alloc: Global, tokens: &[Token], at: usize) -> Result<(Expr, usize), Stop>
-    requires load { load_of tokens.now ≤ 200 }
-    requires within { at ≤ length tokens.now }
-    ensures { MatchResult result
-        (λ read. (read.1 ≤ length tokens.now)
-        × (spec.expression (drop at tokens.now) ≡ Some (read.0, drop read.1 tokens.now)))
-        (StopsBy (λ error. (error ≡ record { code = Code.SyntaxError; args = [] })
-        × (spec.expression (drop at tokens.now) ≡ None))) }
+/// The longest expression that begins the tokens, and how many of them it takes.
+fn longest(alloc: Global, tokens: &[Token]) -> Result<Option<(Expr, usize)>, NoMemory>
+    ensures { IfOk result (IsLongest tokens.now) }
 {
-    let mut cursor = Cursor::new(&tokens[at..]);
-    let expr = expression(alloc, &mut cursor)?;
-    Ok((expr, tokens.len() - cursor.left()))
+    if let Some(read) = read_ended(alloc, tokens)? {
+        return Ok(Some(read));
+    }
+    for turn in 0..tokens.len() {
+        let cut = tokens.len() - 1 - turn;
+        if !is_ended(&tokens[cut..]) {
+            if let Some(read) = read_ended(alloc, &tokens[..cut])? {
+                return Ok(Some(read));
+            }
+        }
+    }
+    Ok(None)
+}
+
+/// The expression that is read, where nothing behind it could have gone on with it, and how many tokens it takes.
+fn read_ended(alloc: Global, tokens: &[Token]) -> Result<Option<(Expr, usize)>, NoMemory>
+    ensures { IfOk result (IsToldOf tokens.now (where_ended (spec.expression tokens.now))) }
+{
+    let mut cursor = Cursor::new(tokens);
+    match expression(alloc, &mut cursor) {
+        Ok(expr) => {
+            let length = tokens.len() - cursor.left();
+            Ok(is_ended(&tokens[length..]).then_some((expr, length)))
+        }
+        Err(Stop::Sql(_)) => Ok(None),
+        Err(Stop::NoMemory) => Err(NoMemory),
+    }
+}
+
+/// Whether no token comes next that can go on with an expression.
+fn is_ended(tokens: &[Token]) -> bool
+    ensures { result ≡ grammar.is_ended tokens.now }
+{
+    match tokens {
+        [Token::Word(word), ..] => !continues_by_word(word.as_str()),
+        [Token::Sign(sign), ..] => !continues_by_sign(*sign),
+        _ => true,
+    }
+}
+
+fn continues_by_word(word: &str) -> bool
+    ensures { result ≡ grammar.continues_by_word word.now }
+{
+    word == "or"
+        || word == "and"
+        || word == "is"
+        || word == "not"
+        || word == "in"
+        || word == "between"
+}
+
+fn continues_by_sign(sign: Sign) -> bool
+    ensures { result ≡ grammar.continues_by_sign sign }
+{
+    matches!(
+        sign,
+        Sign::Equal
+            | Sign::NotEqual
+            | Sign::Less
+            | Sign::LessEqual
+            | Sign::Greater
+            | Sign::GreaterEqual
+            | Sign::Plus
+            | Sign::Minus
+            | Sign::Star
+            | Sign::Slash
+            | Sign::LeftParen
+            | Sign::Dot
+    )
 }

@@ -1,0 +1,225 @@
+-- What a line spells is a front of the tokens, and is spelt by that front whatever stands behind it.
+use Rattle.std.proofs.Common.{◌≡◌, inl, inr, ⊎_elim, ℕ, zero, suc, ◌+◌, ◌≤◌, Bool, true, false, List, [], ◌∷◌, ◌++◌, length, Option, Some, None, codes, refl, sym, ap, subst, ◌∙◌, arith}
+use Rattle.std.proofs.lemmas.List.{append_assoc}
+use Rattle.sql_tokens.specs.declared.token.Token.{Token}
+use Rattle.sql_tokens.specs.declared.token.Token.TheVariants as token
+use Rattle.sql_tokens.specs.declared.token.Sign.{Sign}
+use Rattle.sql_tokens.specs.declared.token.Sign.TheVariants as sign
+use Rattle.sql_tree.specs.declared.expr.Arithmetic.{Arithmetic}
+use Rattle.sql_tree.specs.declared.expr.Expr.{Expr}
+use Rattle.sql_tree.specs.declared.expr.Expr.TheVariants as e
+use Rattle.sql_expr.specs.declared.grammar.Level.{Level}
+use Rattle.sql_expr.specs.declared.grammar.Level.TheVariants.{Whole, Negated, Signed}
+use Rattle.sql_expr.specs.Reading.{Text, Tokens}
+use Rattle.sql_expr.specs.Lines.{Line, nowhere, gives, one, unless, stands_for, key, mark, many}
+use Rattle.sql_expr.specs.Lines as lines
+use Rattle.sql_expr.specs.Expressions.{constant_of, negative_number}
+use Rattle.sql_expr.specs.Literals.{digits_of}
+use Rattle.sql_expr.specs.Operators.{comparison_of, additive_of, multiplicative_of}
+use Rattle.sql_expr.specs.Grammar as grammar
+use Rattle.sql_expr.proofs.ExpressionAgreement.{within-takes}
+
+pub record Framed {A : Type 0} (P : Line A) (ts : Tokens) (a : A) (us : Tokens) : Type 0 where
+  pub front : Tokens
+  pub joined : ts ≡ front ++ us
+  pub anywhere : (vs : Tokens) → P (front ++ vs) a vs
+
+pub record Frames {A : Type 0} (P : Line A) : Type 0 where
+  pub at : (ts : Tokens) (a : A) (us : Tokens) → P ts a us → Framed P ts a us
+
+frames-nowhere : {A : Type 0} → Frames (nowhere {A = A})
+frames-nowhere = record { at = λ ts a us spelt. absurd spelt }
+
+frames-gives : {A : Type 0} (a : A) → Frames (gives a)
+frames-gives a = record { at = λ ts b us spelt. record { front = []; joined = sym spelt.1; anywhere = λ vs. (spelt.0, refl) } }
+
+frames-one : {A : Type 0} (value_of : Token → Option A) → Frames (one value_of)
+frames-one value_of = record { at = λ ts a us spelt. record { front = spelt.0 ∷ []; joined = spelt.1; anywhere = λ vs. (spelt.0, refl, spelt.2) } }
+
+frames-key : (word : Text) → Frames (key word)
+frames-key word = record { at = λ ts u us spelt. record { front = token.Word word ∷ []; joined = spelt; anywhere = λ vs. refl } }
+
+frames-mark : (s : Sign) → Frames (mark s)
+frames-mark s = record { at = λ ts u us spelt. record { front = token.Sign s ∷ []; joined = spelt; anywhere = λ vs. refl } }
+
+frames-bind : {A B : Type 0} {P : Line A} {Q : A → Line B} → Frames P → ((a : A) → Frames (Q a)) → Frames (lines.◌>>=◌ P Q)
+frames-bind {P = P} {Q = Q} first rest = record {
+  at = λ ts b us spelt.
+      let f = first.at ts spelt.0 spelt.1 spelt.2 in
+      let g = (rest spelt.0).at spelt.1 b us spelt.3 in
+      record {
+        front = f.front ++ g.front;
+        joined = f.joined ∙ (ap (λ vs. f.front ++ vs) g.joined ∙ sym (append_assoc f.front g.front us));
+        anywhere = λ vs. subst (λ xs. lines.◌>>=◌ P Q xs b vs) (sym (append_assoc f.front g.front vs)) (spelt.0, g.front ++ vs, f.anywhere (g.front ++ vs), g.anywhere vs);
+      };
+}
+
+frames-or : {A : Type 0} {P Q : Line A} → Frames P → Frames Q → Frames (lines.◌or◌ P Q)
+frames-or {P = P} {Q = Q} first second = record {
+  at = λ ts a us spelt. ⊎_elim
+      (λ left. let f = first.at ts a us left in record { front = f.front; joined = f.joined; anywhere = λ vs. inl (f.anywhere vs) })
+      (λ right. let f = second.at ts a us right in record { front = f.front; joined = f.joined; anywhere = λ vs. inr (f.anywhere vs) })
+      spelt;
+}
+
+frames-same : {A : Type 0} {P Q : Line A}
+    → ((ts : Tokens) (a : A) (us : Tokens) → P ts a us → Q ts a us) → ((ts : Tokens) (a : A) (us : Tokens) → Q ts a us → P ts a us)
+    → Frames P → Frames Q
+frames-same there back all = record {
+  at = λ ts a us spelt.
+      let f = all.at ts a us (back ts a us spelt) in record { front = f.front; joined = f.joined; anywhere = λ vs. there (f.front ++ vs) a vs (f.anywhere vs) };
+}
+
+-- ---- lists
+
+frames-mapped : {A B : Type 0} {P : Line A} (f : A → B) → Frames P → Frames (lines.◌<$>◌ f P)
+frames-mapped f all = frames-bind all (λ a. frames-gives (f a))
+
+many-framed : {A : Type 0} {P : Line A} → Frames P → (ts : Tokens) (all : List A) (us : Tokens) → many P ts all us → Framed (many P) ts all us
+many-framed each ts [] us spelt = record { front = []; joined = sym spelt; anywhere = λ vs. refl }
+many-framed {P = P} each ts (a ∷ more) us (middle, first, rest) =
+    let f = each.at ts a middle first in
+    let g = many-framed each middle more us rest in
+    record {
+      front = f.front ++ g.front;
+      joined = f.joined ∙ (ap (λ vs. f.front ++ vs) g.joined ∙ sym (append_assoc f.front g.front us));
+      anywhere = λ vs. subst (λ xs. many P xs (a ∷ more) vs) (sym (append_assoc f.front g.front vs)) (g.front ++ vs, f.anywhere (g.front ++ vs), g.anywhere vs);
+    }
+
+frames-many : {A : Type 0} {P : Line A} → Frames P → Frames (many P)
+frames-many each = record { at = many-framed each }
+
+frames-separated : {A : Type 0} {L : Line (Unit {0})} {P : Line A} → Frames L → Frames P → Frames (lines.separated L P)
+frames-separated separator each = frames-bind each (λ first. frames-bind (frames-many (frames-bind separator (λ u. each))) (λ others. frames-gives (first ∷ others)))
+
+frames-said : (word : Text) → Frames (lines.said word)
+frames-said word = frames-or (frames-bind (frames-key word) (λ u. frames-gives true)) (frames-gives false)
+
+frames-chain : {operator : Line Arithmetic} {operand : Line Expr} → Frames operator → Frames operand → Frames (grammar.chain operator operand)
+frames-chain o each = frames-bind each (λ first. frames-bind (frames-many (frames-bind o (λ op. frames-bind each (λ right. frames-gives (op, right))))) (λ others. frames-gives (grammar.grouped first others)))
+
+-- ---- a look at the next token, which is the first of what comes behind
+
+unless-framed : {A B : Type 0} (value_of : Token → Option B) {Q : Line A} (ts : Tokens) (a : A) (us front : Tokens)
+    → ts ≡ front ++ us → stands_for value_of ts ≡ false → 1 + length us ≤ length ts → ((vs : Tokens) → Q (front ++ vs) a vs) → Framed (lines.◌>>◌ (unless value_of) Q) ts a us
+unless-framed value_of ts a us [] joined none some anywhere = let same = ap length joined in absurd (omega (arith, same, some))
+unless-framed value_of ts a us (t ∷ front) joined none some anywhere = record {
+  front = t ∷ front;
+  joined = joined;
+  anywhere = λ vs. (tt, t ∷ front ++ vs, (refl, ap (stands_for value_of) (sym joined) ∙ none), anywhere vs);
+}
+
+frames-unless : {A B : Type 0} (value_of : Token → Option B) {Q : Line A} → Frames Q → ((ts : Tokens) (a : A) (us : Tokens) → Q ts a us → 1 + length us ≤ length ts) → Frames (lines.◌>>◌ (unless value_of) Q)
+frames-unless value_of {Q = Q} all some = record {
+  at = λ ts a us spelt.
+      let here = subst (λ vs. Q vs a us) spelt.2.0 spelt.3 in
+      let f = all.at ts a us here in
+      unless-framed value_of ts a us f.front f.joined spelt.2.1 (some ts a us here) f.anywhere;
+}
+
+-- ---- expressions
+
+frames-name : Frames grammar.name
+frames-name = frames-one _
+
+frames-column : Frames grammar.column
+unfolding grammar.column
+frames-column = frames-or
+    (frames-bind frames-name (λ item. frames-bind (frames-mark sign.Dot) (λ u. frames-bind frames-name (λ second. frames-gives (e.Column (record { item = Some item; name = second }))))))
+    (frames-mapped (λ only. e.Column (record { item = None; name = only })) frames-name)
+
+module _ (nested : Level → Line Expr) (below : (level : Level) → Frames (nested level)) (some : (ts : Tokens) (x : Expr) (us : Tokens) → nested Signed ts x us → 1 + length us ≤ length ts) where
+  frames-parenthesized : Frames (grammar.parenthesized nested)
+  frames-parenthesized = frames-bind (frames-mark sign.LeftParen) (λ u. frames-bind (below Whole) (λ inner. frames-bind (frames-mark sign.RightParen) (λ v. frames-gives inner)))
+
+  frames-call : Frames (grammar.call nested)
+  frames-call = frames-bind frames-name (λ function. frames-bind (frames-mark sign.LeftParen) (λ u.
+      frames-bind (frames-or (frames-bind (frames-mark sign.Star) (λ v. frames-gives (e.CallStar function))) (frames-mapped (e.Call function) (below Whole))) (λ called.
+      frames-bind (frames-mark sign.RightParen) (λ w. frames-gives called))))
+
+  frames-primary : Frames (grammar.primary nested)
+  unfolding grammar.primary
+  frames-primary = frames-or (frames-one constant_of) (frames-or frames-column (frames-or frames-call frames-parenthesized))
+
+  abbrev minus_of_none : Line Expr
+  minus_of_none = lines.◌>>◌ (mark sign.Minus) (lines.◌>>◌ (unless digits_of) (lines.◌<$>◌ e.Minus (nested Signed)))
+
+  abbrev minus_line : Line Expr
+  minus_line = lines.◌>>◌ (lines.◌>>◌ (mark sign.Minus) (unless digits_of)) (lines.◌<$>◌ e.Minus (nested Signed))
+
+  minus-there : (ts : Tokens) (x : Expr) (us : Tokens) → minus_of_none ts x us → minus_line ts x us
+  minus-there ts x us (u, middle, minus, (v, after, none, inner)) = (v, after, (u, middle, minus, none), inner)
+
+  minus-back : (ts : Tokens) (x : Expr) (us : Tokens) → minus_line ts x us → minus_of_none ts x us
+  minus-back ts x us (v, after, (u, middle, minus, none), inner) = (u, middle, minus, (v, after, none, inner))
+
+  minus-some : (ts : Tokens) (x : Expr) (us : Tokens) → (lines.◌<$>◌ e.Minus (nested Signed)) ts x us → 1 + length us ≤ length ts
+  minus-some ts x us (operand, middle, inner, (same, end)) = subst (λ vs. 1 + length vs ≤ length ts) (sym end) (some ts operand middle inner)
+
+  frames-signed : Frames (grammar.signed nested)
+  unfolding grammar.signed
+  frames-signed = frames-or (frames-bind (frames-mark sign.Minus) (λ u. frames-mapped negative_number (frames-one digits_of)))
+      (frames-or (frames-same minus-there minus-back (frames-bind (frames-mark sign.Minus) (λ u. frames-unless digits_of (frames-mapped e.Minus (below Signed)) minus-some))) frames-primary)
+
+  frames-product : Frames (grammar.product nested)
+  unfolding grammar.product
+  frames-product = frames-chain (frames-one multiplicative_of) frames-signed
+
+  frames-sum : Frames (grammar.sum nested)
+  unfolding grammar.sum
+  frames-sum = frames-chain (frames-one additive_of) frames-product
+
+  frames-in_list : (operand : Expr) (negated : Bool) → Frames (grammar.in_list nested operand negated)
+  unfolding grammar.in_list
+  frames-in_list operand negated = frames-bind (frames-mark sign.LeftParen) (λ u. frames-bind (frames-separated (frames-mark sign.Comma) (below Whole)) (λ values.
+      frames-bind (frames-mark sign.RightParen) (λ v. frames-gives (e.InList operand values negated))))
+
+  frames-between : (operand : Expr) (negated : Bool) → Frames (grammar.between nested operand negated)
+  unfolding grammar.between
+  frames-between operand negated = frames-bind frames-sum (λ low. frames-bind (frames-key (codes "and")) (λ u. frames-bind frames-sum (λ high. frames-gives (e.Between operand low high negated))))
+
+  frames-membership : Frames (grammar.membership nested)
+  unfolding grammar.membership
+  frames-membership = frames-bind frames-sum (λ operand. frames-or
+      (frames-bind (frames-said (codes "not")) (λ negated. frames-bind (frames-key (codes "in")) (λ u. frames-in_list operand negated)))
+      (frames-or (frames-bind (frames-said (codes "not")) (λ negated. frames-bind (frames-key (codes "between")) (λ u. frames-between operand negated)))
+      (frames-gives operand)))
+
+  frames-comparison : Frames (grammar.comparison nested)
+  unfolding grammar.comparison
+  frames-comparison = frames-bind frames-membership (λ left. frames-or
+      (frames-bind (frames-one comparison_of) (λ op. frames-bind frames-membership (λ right. frames-gives (e.Comparison op left right))))
+      (frames-gives left))
+
+  frames-null_test : Frames (grammar.null_test nested)
+  unfolding grammar.null_test
+  frames-null_test = frames-bind frames-comparison (λ operand. frames-or
+      (frames-bind (frames-key (codes "is")) (λ u. frames-bind (frames-said (codes "not")) (λ negated. frames-bind (frames-key (codes "null")) (λ v. frames-gives (e.IsNull operand negated)))))
+      (frames-gives operand))
+
+  pub frames-negation : Frames (grammar.negation nested)
+  unfolding grammar.negation
+  frames-negation = frames-or (frames-bind (frames-key (codes "not")) (λ u. frames-mapped e.Not (below Negated))) frames-null_test
+
+  frames-conjunction : Frames (grammar.conjunction nested)
+  unfolding grammar.conjunction
+  frames-conjunction = frames-mapped (grammar.operation e.And) (frames-separated (frames-key (codes "and")) frames-negation)
+
+  pub frames-disjunction : Frames (grammar.disjunction nested)
+  unfolding grammar.disjunction
+  frames-disjunction = frames-mapped (grammar.operation e.Or) (frames-separated (frames-key (codes "or")) frames-conjunction)
+
+frames-within : (depth : ℕ) (level : Level) → Frames (grammar.within depth level)
+unfolding grammar.within
+frames-within zero level = frames-nowhere
+frames-within (suc depth) Whole = frames-disjunction (grammar.within depth) (frames-within depth) (within-takes depth Signed)
+frames-within (suc depth) Negated = frames-negation (grammar.within depth) (frames-within depth) (within-takes depth Signed)
+frames-within (suc depth) Signed = frames-signed (grammar.within depth) (frames-within depth) (within-takes depth Signed)
+
+pub frames-expression : Frames grammar.expression
+unfolding grammar.expression
+frames-expression = record {
+  at = λ ts x us spelt.
+      let f = (frames-disjunction (grammar.within spelt.0) (frames-within spelt.0) (within-takes spelt.0 Signed)).at ts x us spelt.1 in
+      record { front = f.front; joined = f.joined; anywhere = λ vs. (spelt.0, f.anywhere vs) };
+}
