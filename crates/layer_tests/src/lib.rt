@@ -1,4 +1,4 @@
-//! Tests of the crates between the ground and the session, and nothing else.
+//! Tests of the crates from the ground up to the session, and nothing else.
 //!
 //! A crate with tests is proved once more for them. Here that is a crate without code of its own, so that
 //! the tested ones are proved once.
@@ -6,6 +6,8 @@
 
 #[cfg(test)]
 mod blocks;
+#[cfg(test)]
+mod ground;
 #[cfg(test)]
 mod index_entries;
 #[cfg(test)]
@@ -16,6 +18,8 @@ mod operators;
 mod printed_lines;
 #[cfg(test)]
 mod query_copies;
+#[cfg(test)]
+mod reads_and_writes;
 #[cfg(test)]
 mod session_settings;
 #[cfg(test)]

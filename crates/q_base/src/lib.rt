@@ -22,6 +22,3 @@ pub use table::Table;
 pub use text::Str;
 pub use touched::Touched;
 pub use work::Work;
-
-#[cfg(test)]
-mod tests;

@@ -22,6 +22,3 @@ pub use mem_source::MemSource;
 pub use sink::Sink;
 pub use source::Source;
 pub use sure_source::SureSource;
-
-#[cfg(test)]
-mod tests;

@@ -1,6 +1,9 @@
 ghost use Rattle.std.specs.Prelude.{◌≡◌, ◌≤◌};
 
-use super::*;
+use q_base::{
+    Code, ColId, ColList, IdList, ListOf, NoMemory, ObjId, Stop, Str, Table, Work, refusal,
+    refusal_naming, refusal_naming_two,
+};
 use std::alloc::Global;
 use std::marker::Brand;
 use std::mem::size_of;

@@ -2,7 +2,7 @@
 ghost use Rattle.std.specs.Prelude.{◌<◌, length, OnErr};
 ghost use Rattle.q_io.specs.Faults.{Rose};
 
-use super::*;
+use q_io::{Failed, MemSink, MemSource, ReadSource, Sink, Source, SureSource, WriteSink};
 use std::alloc::{AllocError, Global};
 use std::io;
 use std::io::{ErrorKind, Read, Write};
