@@ -13,8 +13,7 @@ use Rattle.sql_expr.specs.declared.grammar.Level.TheVariants.{Whole, Negated, Si
 use Rattle.sql_expr.specs.Reading.{Text, Tokens}
 use Rattle.sql_expr.specs.Lines.{Line, nowhere, gives, one, unless, stands_for, key, mark, many}
 use Rattle.sql_expr.specs.Lines as lines
-use Rattle.sql_expr.specs.Expressions.{constant_of, negative_number}
-use Rattle.sql_expr.specs.Literals.{digits_of}
+use Rattle.sql_expr.specs.Literals.{constant_of, digits_of, negative_number}
 use Rattle.sql_expr.specs.Operators.{comparison_of, additive_of, multiplicative_of}
 use Rattle.sql_expr.specs.Grammar as grammar
 use Rattle.sql_expr.proofs.ExpressionAgreement.{within-takes}

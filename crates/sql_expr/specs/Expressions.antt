@@ -1,17 +1,14 @@
 -- Expressions, a reading function for each line of their grammar.
 use Rattle.std.specs.Prelude.{ℕ, zero, suc, Bool, true, List, [], ◌∷◌, length, Option, Some, None, codes, if◌then◌else◌}
-use Rattle.sql_tokens.specs.declared.token.Token.{Token}
-use Rattle.sql_tokens.specs.declared.token.Token.TheVariants as token
 use Rattle.sql_tokens.specs.declared.token.Sign.TheVariants as sign
 use Rattle.sql_tree.specs.declared.expr.Arithmetic.{Arithmetic}
 use Rattle.sql_tree.specs.declared.expr.Expr.{Expr}
 use Rattle.sql_tree.specs.declared.expr.Expr.TheVariants as e
-use Rattle.sql_tree.specs.declared.expr.Literal.{Literal}
-use Rattle.sql_tree.specs.declared.expr.Literal.TheVariants as literal
 use Rattle.sql_expr.specs.declared.grammar.Level.{Level}
 use Rattle.sql_expr.specs.declared.grammar.Level.TheVariants.{Whole, Negated, Signed}
 use Rattle.sql_expr.specs.Reading.{Text, Parser, ◌>>=◌, ◌>>◌, ◌<$>◌, pure, refuse, taken, eat_word, eat_sign, expect_word, expect_sign, separated, separated_from, goes_on}
-use Rattle.sql_expr.specs.Literals.{literal_of, digits_of}
+pub use Rattle.sql_expr.specs.Literals.{constant_of, constant_of_literal, negative_number}
+use Rattle.sql_expr.specs.Literals.{digits_of}
 use Rattle.sql_expr.specs.Names.{name}
 use Rattle.sql_expr.specs.Operators.{comparison_of, additive_of, multiplicative_of}
 
@@ -22,15 +19,6 @@ column first = do
   if dotted then (λ second. e.Column (record { item = Some first; name = second })) <$> name
       else pure (e.Column (record { item = None; name = first }))
 
--- the operand that is one token, but for a name
-abbrev pub constant_of_literal : Option Literal → Option Expr
-constant_of_literal (Some l) = Some (e.Literal l)
-constant_of_literal None = None
-
-abbrev pub constant_of : Token → Option Expr
-constant_of (token.Param digits) = Some (e.Param digits)
-constant_of t = constant_of_literal (literal_of t)
-
 -- `{operator operand}` behind a first operand, grouped to the left
 unfoldable pub grouped_from : Parser (Option Arithmetic) → Parser Expr → ℕ → Expr → Parser Expr
 grouped_from operator operand zero left = pure left
@@ -40,9 +28,6 @@ grouped_from operator operand (suc n) left = do
 
 abbrev pub grouped : Parser (Option Arithmetic) → Parser Expr → Expr → Parser Expr
 grouped operator operand left = λ ts. grouped_from operator operand (length ts) left ts
-
-abbrev pub negative_number : Text → Expr
-negative_number digits = e.Literal (literal.Number (record { negative = true; digits = digits }))
 
 -- The reading function of nested expressions stands for the lines of the grammar that lead back up.
 module _ (deeper : Level → Parser Expr) where

@@ -13,8 +13,7 @@ use Rattle.sql_expr.specs.declared.grammar.Level.{Level}
 use Rattle.sql_expr.specs.declared.grammar.Level.TheVariants.{Whole, Negated, Signed}
 use Rattle.sql_expr.specs.Reading.{Text, Tokens, same_sign}
 use Rattle.sql_expr.specs.Lines.{Line, ◌>>=◌, ◌>>◌, ◌<$>◌, ◌or◌, nowhere, gives, one, unless, key, mark, said, many, separated, list}
-use Rattle.sql_expr.specs.Expressions.{constant_of, negative_number}
-use Rattle.sql_expr.specs.Literals.{digits_of}
+use Rattle.sql_expr.specs.Literals.{constant_of, digits_of, negative_number}
 use Rattle.sql_expr.specs.Names.{name_of}
 use Rattle.sql_expr.specs.Operators.{comparison_of, additive_of, multiplicative_of}
 

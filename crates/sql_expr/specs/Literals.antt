@@ -4,6 +4,8 @@ use Rattle.std.specs.Str.{bytes_eq}
 use Rattle.sql_tokens.specs.declared.token.Token.{Token}
 use Rattle.sql_tokens.specs.declared.token.Token.TheVariants as token
 use Rattle.sql_tokens.specs.declared.token.Sign.TheVariants as sign
+use Rattle.sql_tree.specs.declared.expr.Expr.{Expr}
+use Rattle.sql_tree.specs.declared.expr.Expr.TheVariants as e
 use Rattle.sql_tree.specs.declared.expr.Literal.{Literal}
 use Rattle.sql_tree.specs.declared.expr.Literal.TheVariants as literal
 use Rattle.sql_tree.specs.declared.expr.Numeral.{Numeral}
@@ -31,6 +33,19 @@ digits_of _ = None
 abbrev pub param_of : Token → Option Text
 param_of (token.Param digits) = Some digits
 param_of _ = None
+
+-- the literal that a number with a minus before it is
+abbrev pub negative_number : Text → Expr
+negative_number digits = e.Literal (literal.Number (record { negative = true; digits = digits }))
+
+-- the operand that is one token, but for a name
+abbrev pub constant_of_literal : Option Literal → Option Expr
+constant_of_literal (Some l) = Some (e.Literal l)
+constant_of_literal None = None
+
+abbrev pub constant_of : Token → Option Expr
+constant_of (token.Param digits) = Some (e.Param digits)
+constant_of t = constant_of_literal (literal_of t)
 
 -- `[-] number`
 unfoldable pub numeral : Parser Numeral
