@@ -1,4 +1,4 @@
-use Rattle.q_base.proofs.tests.counters_open_and_count.Given as goal
+use Rattle.layer_tests.proofs.ground.counters_open_and_count.Given as goal
 
 -- the ledger of the blank that it makes
 abbrev pub ghosts-count_some : goal.ghosts-count_some
