@@ -29,6 +29,20 @@ use sql_tree::{ColumnRef, Expr, Literal, Numeral};
 use sqlite_items::Items;
 use std::alloc::Global;
 
+/// What was read, or the way out past trees that are dropped by name: that is proved much sooner than the drop that `?`
+/// adds at each place.
+macro_rules! or_drop {
+    ($read:expr, $($tree:ident),+) => {
+        match $read {
+            Ok(read) => read,
+            Err(stop) => {
+                $(drop($tree);)+
+                return Err(stop);
+            }
+        }
+    };
+}
+
 /// The lines of the grammar to which a nested expression leads back.
 #[derive(Clone, Copy)]
 pub enum Level {
@@ -150,7 +164,7 @@ fn null_test(alloc: Global, cursor: &mut Cursor<'_>, depth: usize) -> Result<Exp
         return Ok(operand);
     }
     let negated = cursor.eat_word("not");
-    cursor.expect_word(alloc, "null")?;
+    or_drop!(cursor.expect_word(alloc, "null"), operand);
     Ok(nodes::is_null(alloc, operand, negated)?)
 }
 
@@ -163,7 +177,7 @@ fn comparison(alloc: Global, cursor: &mut Cursor<'_>, depth: usize) -> Result<Ex
     let Some(operator) = eat_comparison(cursor) else {
         return Ok(left);
     };
-    let right = membership(alloc, cursor, depth)?;
+    let right = or_drop!(membership(alloc, cursor, depth), left);
     Ok(nodes::comparison(alloc, operator, left, right)?)
 }
 
@@ -179,6 +193,7 @@ fn membership(alloc: Global, cursor: &mut Cursor<'_>, depth: usize) -> Result<Ex
     } else if cursor.eat_word("between") {
         between(alloc, cursor, depth, operand, negated)
     } else if negated {
+        drop(operand);
         Err(refusal(alloc, Code::SyntaxError))
     } else {
         Ok(operand)
@@ -197,9 +212,9 @@ fn in_list(
 ) -> Result<Expr, Stop>
     ensures { Reads (spec.in_list (spec.nested depth) operand negated cursor.old) result cursor.new }
 {
-    cursor.expect_sign(alloc, Sign::LeftParen)?;
-    let listed = values(alloc, cursor, depth)?;
-    cursor.expect_sign(alloc, Sign::RightParen)?;
+    or_drop!(cursor.expect_sign(alloc, Sign::LeftParen), operand);
+    let listed = or_drop!(values(alloc, cursor, depth), operand);
+    or_drop!(cursor.expect_sign(alloc, Sign::RightParen), operand, listed);
     Ok(nodes::in_list(alloc, operand, listed, negated)?)
 }
 
@@ -230,9 +245,9 @@ fn between(
 ) -> Result<Expr, Stop>
     ensures { Reads (spec.between (spec.nested depth) operand negated cursor.old) result cursor.new }
 {
-    let low = sum(alloc, cursor, depth)?;
-    cursor.expect_word(alloc, "and")?;
-    let high = sum(alloc, cursor, depth)?;
+    let low = or_drop!(sum(alloc, cursor, depth), operand);
+    or_drop!(cursor.expect_word(alloc, "and"), operand, low);
+    let high = or_drop!(sum(alloc, cursor, depth), operand, low);
     Ok(nodes::between(alloc, operand, low, high, negated)?)
 }
 
@@ -246,7 +261,7 @@ fn sum(alloc: Global, cursor: &mut Cursor<'_>, depth: usize) -> Result<Expr, Sto
         let Some(operator) = eat_additive(cursor) else {
             return Ok(left);
         };
-        let right = product(alloc, cursor, depth)?;
+        let right = or_drop!(product(alloc, cursor, depth), left);
         left = nodes::arithmetic(alloc, operator, left, right)?;
     }
     Ok(left)
@@ -262,7 +277,7 @@ fn product(alloc: Global, cursor: &mut Cursor<'_>, depth: usize) -> Result<Expr,
         let Some(operator) = eat_multiplicative(cursor) else {
             return Ok(left);
         };
-        let right = signed(alloc, cursor, depth)?;
+        let right = or_drop!(signed(alloc, cursor, depth), left);
         left = nodes::arithmetic(alloc, operator, left, right)?;
     }
     Ok(left)
@@ -313,7 +328,7 @@ fn parenthesized(alloc: Global, cursor: &mut Cursor<'_>, depth: usize) -> Result
     ensures { Reads (spec.parenthesized (spec.nested depth) cursor.old) result cursor.new }
 {
     let inner = nested(alloc, cursor, depth, Level::Whole)?;
-    cursor.expect_sign(alloc, Sign::RightParen)?;
+    or_drop!(cursor.expect_sign(alloc, Sign::RightParen), inner);
     Ok(inner)
 }
 
@@ -341,7 +356,7 @@ fn call(alloc: Global, cursor: &mut Cursor<'_>, depth: usize, function: Str) -> 
         return Ok(Expr::CallStar(function));
     }
     let argument = nested(alloc, cursor, depth, Level::Whole)?;
-    cursor.expect_sign(alloc, Sign::RightParen)?;
+    or_drop!(cursor.expect_sign(alloc, Sign::RightParen), argument);
     Ok(nodes::call(alloc, function, argument)?)
 }
 

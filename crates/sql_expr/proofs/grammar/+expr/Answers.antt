@@ -111,9 +111,9 @@ product-returns-in_default t c =
     let turn = one_more (λ n. grouped_from (taken multiplicative_of) (signed (nested c.args.depth)) n c.loop-turn.left c.loop-turn.cursor) _ c.loop-turn._turn c.loop-turn-test.true c.loop-turn.invariant in
     first_of (search rules, grind (arith, common_steps))
 
-pub product-returns-in_err-right : goal.product-returns-in_err-right
+pub product-returns-in-Err : goal.product-returns-in-Err
 unfolding grouped_from
-product-returns-in_err-right t c =
+product-returns-in-Err t c =
     let turn = one_more (λ n. grouped_from (taken multiplicative_of) (signed (nested c.args.depth)) n c.loop-turn.left c.loop-turn.cursor) _ c.loop-turn._turn c.loop-turn-test.true c.loop-turn.invariant in
     first_of (search rules, grind (arith, common_steps))
 
@@ -135,9 +135,9 @@ sum-returns-in_default t c =
     let turn = one_more (λ n. grouped_from (taken additive_of) (product (nested c.args.depth)) n c.loop-turn.left c.loop-turn.cursor) _ c.loop-turn._turn c.loop-turn-test.true c.loop-turn.invariant in
     first_of (search rules, grind (arith, common_steps))
 
-pub sum-returns-in_err-right : goal.sum-returns-in_err-right
+pub sum-returns-in-Err : goal.sum-returns-in-Err
 unfolding grouped_from
-sum-returns-in_err-right t c =
+sum-returns-in-Err t c =
     let turn = one_more (λ n. grouped_from (taken additive_of) (product (nested c.args.depth)) n c.loop-turn.left c.loop-turn.cursor) _ c.loop-turn._turn c.loop-turn-test.true c.loop-turn.invariant in
     first_of (search rules, grind (arith, common_steps))
 
