@@ -13,7 +13,9 @@ fn key(alloc: Global, first: Value, second: Value) -> Result<Key, NoMemory> {
     Ok(key)
 }
 
-fn edge(number: i64, included: bool) -> Option<Edge> {
+/// A number as an edge, and whether it is within.
+fn edge(edge: Option<(i64, bool)>) -> Option<Edge> {
+    let (number, included) = edge?;
     Some(Edge {
         value: Value::Int8(number),
         included,
@@ -57,69 +59,86 @@ fn slots(alloc: Global, index: &Index, range: &KeyRange) -> Result<Vec<u64>, NoM
     Ok(slots)
 }
 
+fn add(
+    alloc: Global,
+    index: &mut Index,
+    first: Value,
+    second: Value,
+    slot: u64,
+) -> Result<(), NoMemory> {
+    index.add(key(alloc, first, second)?, SlotId(slot))
+}
+
+fn add_others(alloc: Global, index: &mut Index) -> Result<(), NoMemory> {
+    let text = Value::Text(Str::from_text(alloc, "a")?);
+    add(alloc, index, Value::Null, Value::Int4(1), 1)?;
+    add(alloc, index, Value::Bool(false), Value::Int4(1), 2)?;
+    add(alloc, index, text, Value::Null, 3)?;
+    add(alloc, index, Value::Int4(-2), Value::Int4(5), 8)
+}
+
+fn add_sevens(alloc: Global, index: &mut Index) -> Result<(), NoMemory> {
+    add(alloc, index, Value::Int4(7), Value::Null, 4)?;
+    add(alloc, index, Value::Int8(7), Value::Int4(9), 5)?;
+    add(alloc, index, Value::Int2(7), Value::Int4(3), 7)?;
+    add(alloc, index, Value::Int4(7), Value::Int8(3), 6)?;
+    add(alloc, index, Value::Int8(7), Value::Int8(9), 5)
+}
+
 /// Entries of two values, added out of order.
 fn sample(alloc: Global) -> Result<Index, NoMemory> {
     let mut index = Index::new(alloc);
-    index.add(key(alloc, Value::Null, Value::Int4(1))?, SlotId(1))?;
-    index.add(key(alloc, Value::Bool(false), Value::Int4(1))?, SlotId(2))?;
-    index.add(
-        key(alloc, Value::Text(Str::from_text(alloc, "a")?), Value::Null)?,
-        SlotId(3),
-    )?;
-    index.add(key(alloc, Value::Int4(7), Value::Null)?, SlotId(4))?;
-    index.add(key(alloc, Value::Int8(7), Value::Int4(9))?, SlotId(5))?;
-    index.add(key(alloc, Value::Int2(7), Value::Int4(3))?, SlotId(7))?;
-    index.add(key(alloc, Value::Int4(7), Value::Int8(3))?, SlotId(6))?;
-    index.add(key(alloc, Value::Int4(-2), Value::Int4(5))?, SlotId(8))?;
-    index.add(key(alloc, Value::Int8(7), Value::Int8(9))?, SlotId(5))?;
+    add_others(alloc, &mut index)?;
+    add_sevens(alloc, &mut index)?;
     Ok(index)
 }
 
+/// Whether these are the slots of a range's entries.
+fn has(alloc: Global, index: &Index, range: &KeyRange, expected: &[u64]) -> Result<bool, NoMemory> {
+    Ok(slots(alloc, index, range)?.as_slice() == expected)
+}
+
+/// Edges of the first value, as a number and whether it is within, and the slots between them.
+const BETWEEN: [(Option<(i64, bool)>, Option<(i64, bool)>, &[u64]); 5] = [
+    (None, None, &[8, 6, 7, 5, 4, 3, 2, 1]),
+    (Some((7, true)), None, &[6, 7, 5, 4, 3, 2]),
+    (Some((7, false)), None, &[3, 2]),
+    (None, Some((7, true)), &[8, 6, 7, 5, 4]),
+    (None, Some((7, false)), &[8]),
+];
+
 #[test]
 fn entries_stand_in_order(rt: HostRuntime) -> Result<(), Fail> {
+    let index = sample(rt.alloc())?;
+    for (low, high, expected) in &BETWEEN {
+        let range = between(rt.alloc(), edge(*low), edge(*high));
+        assert!(rt; has(rt.alloc(), &index, &range, expected)?);
+    }
+    Ok(())
+}
+
+#[test]
+fn entries_of_one_value_are_found(rt: HostRuntime) -> Result<(), Fail> {
     let alloc = rt.alloc();
     let mut index = sample(alloc)?;
-    let all = between(alloc, None, None);
-    let from_seven = between(alloc, edge(7, true), None);
-    let past_seven = between(alloc, edge(7, false), None);
-    let to_seven = between(alloc, None, edge(7, true));
-    let below_seven = between(alloc, None, edge(7, false));
-    let three_to_nine = second_between(alloc, Value::Int8(7), edge(3, false), edge(9, true))?;
-    let only_seven = second_between(alloc, Value::Int2(7), None, None)?;
-    assert_eq!(rt;
-        slots(alloc, &index, &all)?.as_slice(),
-        [8, 6, 7, 5, 4, 3, 2, 1].as_slice()
-    );
-    assert_eq!(rt;
-        slots(alloc, &index, &from_seven)?.as_slice(),
-        [6, 7, 5, 4, 3, 2].as_slice()
-    );
-    assert_eq!(rt;
-        slots(alloc, &index, &past_seven)?.as_slice(),
-        [3, 2].as_slice()
-    );
-    assert_eq!(rt;
-        slots(alloc, &index, &to_seven)?.as_slice(),
-        [8, 6, 7, 5, 4].as_slice()
-    );
-    assert_eq!(rt;
-        slots(alloc, &index, &below_seven)?.as_slice(),
-        [8].as_slice()
-    );
-    assert_eq!(rt;
-        slots(alloc, &index, &three_to_nine)?.as_slice(),
-        [5].as_slice()
-    );
-    assert_eq!(rt;
-        slots(alloc, &index, &only_seven)?.as_slice(),
-        [6, 7, 5, 4].as_slice()
-    );
+    let some = second_between(
+        alloc,
+        Value::Int8(7),
+        edge(Some((3, false))),
+        edge(Some((9, true))),
+    )?;
+    assert!(rt; has(alloc, &index, &some, &[5])?);
+    let all = second_between(alloc, Value::Int2(7), None, None)?;
+    assert!(rt; has(alloc, &index, &all, &[6, 7, 5, 4])?);
+    remove_two(alloc, &mut index)?;
+    assert!(rt; has(alloc, &index, &all, &[7, 5, 4])?);
+    Ok(())
+}
+
+/// Takes an entry out, and another one that isn't there.
+fn remove_two(alloc: Global, index: &mut Index) -> Result<(), NoMemory> {
     index.remove(&key(alloc, Value::Int2(7), Value::Int2(3))?, SlotId(6));
     index.remove(&key(alloc, Value::Int4(7), Value::Null)?, SlotId(9));
-    assert_eq!(rt;
-        slots(alloc, &index, &only_seven)?.as_slice(),
-        [7, 5, 4].as_slice()
-    );
     Ok(())
 }
 
@@ -149,13 +168,18 @@ fn remove_first(alloc: Global, index: &mut Index) -> Result<(), NoMemory> {
     Ok(())
 }
 
+/// Whether the slots of all entries are those from `first` on.
+fn all_from(alloc: Global, index: &Index, first: u64) -> Result<bool, NoMemory> {
+    let all = between(alloc, None, None);
+    Ok(slots(alloc, index, &all)?.iter().copied().eq(first..COUNT))
+}
+
 #[test]
 fn many_entries_are_kept(rt: HostRuntime) -> Result<(), Fail> {
     let alloc = rt.alloc();
-    let all = between(alloc, None, None);
     let mut index = numbers(alloc)?;
-    assert!(rt; slots(alloc, &index, &all)?.iter().copied().eq(0..9_000));
+    assert!(rt; all_from(alloc, &index, 0)?);
     remove_first(alloc, &mut index)?;
-    assert!(rt; slots(alloc, &index, &all)?.iter().copied().eq(8_900..9_000));
+    assert!(rt; all_from(alloc, &index, 8_900)?);
     Ok(())
 }

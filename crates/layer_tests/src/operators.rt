@@ -30,33 +30,61 @@ fn compared(alloc: Global, left: Target, right: Target) -> Result<Target, NoMemo
     Ok(Target::Compare(CompareOp::Less, left, Boxed::new(alloc, right)?))
 }
 
-/// The operators over the edges of their types are in `examples/operators_*.sql`.
 #[test]
-fn operators_are_found_and_evaluated(rt: HostRuntime) -> Result<(), Fail> {
-    let alloc = rt.alloc();
+fn operators_are_found(rt: HostRuntime) {
+    let row = OpRow {
+        common: SqlType::Int8,
+        result: SqlType::Int8,
+    };
     assert_eq!(rt;
         find_op(Op::Divide, SqlType::Int2, SqlType::Int8),
-        Some(OpRow {
-            common: SqlType::Int8,
-            result: SqlType::Int8
-        })
+        Some(row)
     );
     assert_eq!(rt; find_op(Op::Less, SqlType::Text, SqlType::Int4), None);
-    let row = [Value::Int8(-7)];
-    let target = quotient(alloc)?;
-    match eval_target(alloc, &target, &row, &[Value::Int8(2)]) {
-        Ok(value) => assert_eq!(rt; value.number(), Some(-3)),
-        Err(_) => assert!(rt; false),
-    }
-    let by_zero = eval_target(alloc, &target, &row, &[Value::Int8(0)]);
-    assert!(rt; matches!(&by_zero, Err(EvalStop::Fault(Code::DivisionByZero))));
-    let below = compared(alloc, column(), Target::Param(SqlType::Int8, 1))?;
-    assert_eq!(rt; eval_cond(&below, &row, &[Value::Int8(0)]), Some(true));
-    let cond = compared(alloc, quotient(alloc)?, column())?;
-    assert_eq!(rt;
-        eval_fallible(&cond, &row, &[Value::Int8(0)]),
-        Err(Code::DivisionByZero)
+}
+
+/// The row of -7 over a parameter, or the fault.
+fn divided(alloc: Global, by: i64) -> Result<Option<i64>, EvalStop> {
+    let value = eval_target(
+        alloc,
+        &quotient(alloc)?,
+        &[Value::Int8(-7)],
+        &[Value::Int8(by)],
+    )?;
+    Ok(value.number())
+}
+
+/// The operators over the edges of their types are in `examples/operators_*.sql`.
+#[test]
+fn targets_are_evaluated(rt: HostRuntime) {
+    assert!(rt; matches!(divided(rt.alloc(), 2), Ok(Some(-3))));
+    assert!(rt;
+        matches!(
+            divided(rt.alloc(), 0),
+            Err(EvalStop::Fault(Code::DivisionByZero))
+        )
     );
-    assert_eq!(rt; eval_cond(&cond, &row, &[Value::Int8(0)]), None);
+}
+
+/// Whether -7 in the row is below the parameter 0.
+fn is_below(alloc: Global) -> Result<Option<bool>, NoMemory> {
+    let cond = compared(alloc, column(), Target::Param(SqlType::Int8, 1))?;
+    Ok(eval_cond(&cond, &[Value::Int8(-7)], &[Value::Int8(0)]))
+}
+
+/// Whether -7 / 0 is below -7, by both readings of a condition.
+fn faulty(alloc: Global) -> Result<(Result<Option<bool>, Code>, Option<bool>), NoMemory> {
+    let cond = compared(alloc, quotient(alloc)?, column())?;
+    let (row, params) = ([Value::Int8(-7)], [Value::Int8(0)]);
+    let answer = eval_fallible(&cond, &row, &params);
+    Ok((answer, eval_cond(&cond, &row, &params)))
+}
+
+#[test]
+fn conditions_are_evaluated(rt: HostRuntime) -> Result<(), Fail> {
+    assert_eq!(rt; is_below(rt.alloc())?, Some(true));
+    let (answer, unknown) = faulty(rt.alloc())?;
+    assert_eq!(rt; answer, Err(Code::DivisionByZero));
+    assert_eq!(rt; unknown, None);
     Ok(())
 }

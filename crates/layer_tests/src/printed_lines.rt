@@ -5,15 +5,11 @@ use result_text::{Tag, TagKind, error_text, rows_text, tag_text, warning_text};
 use std::alloc::Global;
 use std::test::Fail;
 
-fn text(alloc: Global, text: &str) -> Result<Str, NoMemory> {
-    Ok(Str::new(String::from_str(alloc, text)?))
-}
-
 fn shape(alloc: Global, names: &[&str]) -> Result<ResultType, NoMemory> {
     let mut columns = ResultColumnList::new(alloc);
     for name in names {
         columns.push(ResultColumn {
-            name: text(alloc, name)?,
+            name: Str::from_text(alloc, name)?,
             kind: SqlType::Text,
         })?;
     }
@@ -29,35 +25,70 @@ fn pair(alloc: Global, left: Value, right: Value) -> Result<Row, NoMemory> {
     Ok(row)
 }
 
-/// Each line as PostgreSQL and psql print it.
-#[test]
-fn lines_are_printed(rt: HostRuntime) -> Result<(), Fail> {
-    let alloc = rt.alloc();
-    let mut out = Vec::new(alloc);
+fn show_no_rows(alloc: Global, out: &mut Vec<u8>) -> Result<(), NoMemory> {
+    rows_text(
+        alloc,
+        &shape(alloc, &["a", "?column?"])?,
+        &Rows::new(alloc),
+        out,
+    )
+}
+
+/// One row, then two.
+fn show_rows(alloc: Global, out: &mut Vec<u8>) -> Result<(), NoMemory> {
+    let shape = shape(alloc, &["a", "b"])?;
     let mut rows = Rows::new(alloc);
-    rows_text(alloc, &shape(alloc, &["a", "?column?"])?, &rows, &mut out)?;
     rows.push(pair(alloc, Value::Null, Value::Bool(true))?)?;
-    rows_text(alloc, &shape(alloc, &["a", "b"])?, &rows, &mut out)?;
-    rows.push(pair(alloc, Value::Text(text(alloc, "x|y")?), Value::Int4(-3))?)?;
-    rows_text(alloc, &shape(alloc, &["a", "b"])?, &rows, &mut out)?;
-    tag_text(alloc, Tag::Insert, 12, &mut out)?;
-    tag_text(alloc, Tag::Drop(TagKind::View), 12, &mut out)?;
-    tag_text(alloc, Tag::CloseCursorAll, 0, &mut out)?;
+    rows_text(alloc, &shape, &rows, out)?;
+    let text = Value::Text(Str::from_text(alloc, "x|y")?);
+    rows.push(pair(alloc, text, Value::Int4(-3))?)?;
+    rows_text(alloc, &shape, &rows, out)
+}
+
+fn show_tags(alloc: Global, out: &mut Vec<u8>) -> Result<(), NoMemory> {
+    tag_text(alloc, Tag::Insert, 12, out)?;
+    tag_text(alloc, Tag::Drop(TagKind::View), 12, out)?;
+    tag_text(alloc, Tag::CloseCursorAll, 0, out)
+}
+
+fn error(alloc: Global) -> Result<SqlError, NoMemory> {
     let mut args = Args::new(alloc);
-    args.push(text(alloc, "t")?)?;
-    let error = SqlError {
+    args.push(Str::from_text(alloc, "t")?)?;
+    Ok(SqlError {
         code: Code::UnknownRelation,
         args,
-    };
-    error_text(&error, &mut out)?;
-    let warning = SqlError {
+    })
+}
+
+fn warning(alloc: Global) -> SqlError {
+    SqlError {
         code: Code::NoTransaction,
         args: Args::new(alloc),
-    };
-    warning_text(&warning, &mut out)?;
+    }
+}
+
+/// Each line as PostgreSQL and psql print it.
+#[test]
+fn rows_are_printed(rt: HostRuntime) -> Result<(), Fail> {
+    let mut out = Vec::new(rt.alloc());
+    show_no_rows(rt.alloc(), &mut out)?;
+    show_rows(rt.alloc(), &mut out)?;
     assert_eq!(rt;
         out.as_slice(),
-        b"a|?column?\n(0 rows)\na|b\n|t\n(1 row)\na|b\n|t\nx|y|-3\n(2 rows)\nINSERT 0 12\nDROP VIEW\nCLOSE CURSOR ALL\nERROR:  42P01: relation \"t\" does not exist\nWARNING:  25P01: there is no transaction in progress\n".as_slice()
+        b"a|?column?\n(0 rows)\na|b\n|t\n(1 row)\na|b\n|t\nx|y|-3\n(2 rows)\n".as_slice()
+    );
+    Ok(())
+}
+
+#[test]
+fn other_lines_are_printed(rt: HostRuntime) -> Result<(), Fail> {
+    let mut out = Vec::new(rt.alloc());
+    show_tags(rt.alloc(), &mut out)?;
+    error_text(&error(rt.alloc())?, &mut out)?;
+    warning_text(&warning(rt.alloc()), &mut out)?;
+    assert_eq!(rt;
+        out.as_slice(),
+        b"INSERT 0 12\nDROP VIEW\nCLOSE CURSOR ALL\nERROR:  42P01: relation \"t\" does not exist\nWARNING:  25P01: there is no transaction in progress\n".as_slice()
     );
     Ok(())
 }

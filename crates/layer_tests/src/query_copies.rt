@@ -9,19 +9,26 @@ use sqlite_items::{Boxed, Items};
 use std::alloc::Global;
 use std::test::Fail;
 
-fn relation(alloc: Global, id: u32) -> Result<Relation, NoMemory> {
-    let mut columns = ListOf::new(alloc);
-    columns.push(None)?;
-    let name = Str::from_text(alloc, "b")?;
-    columns.push(Some(ResultColumn {
+fn named(name: Str) -> Option<ResultColumn> {
+    Some(ResultColumn {
         name,
         kind: SqlType::Int4,
-    }))?;
+    })
+}
+
+fn columns(alloc: Global) -> Result<ListOf<Option<ResultColumn>>, NoMemory> {
+    let mut columns = ListOf::new(alloc);
+    columns.push(None)?;
+    columns.push(named(Str::from_text(alloc, "b")?))?;
+    Ok(columns)
+}
+
+fn relation(alloc: Global, id: u32) -> Result<Relation, NoMemory> {
     Ok(Relation {
         id: ObjId(id),
         name: Str::from_text(alloc, "t")?,
         alias: Some(Str::from_text(alloc, "x")?),
-        columns,
+        columns: columns(alloc)?,
         on_conds: 0,
     })
 }
@@ -47,26 +54,41 @@ fn count() -> Target {
     )
 }
 
-/// A condition with each form of targets: `NOT (- b + 7 < $1 AND count(*) IS NULL OR true)`.
-fn condition(alloc: Global) -> Result<Target, NoMemory> {
+fn both(alloc: Global) -> Result<Target, NoMemory> {
+    let is_null = Target::IsNull(Boxed::new(alloc, count())?, false);
     let mut both = Items::new(alloc);
     both.push(less(alloc)?)?;
-    both.push(Target::IsNull(Boxed::new(alloc, count())?, false))?;
+    both.push(is_null)?;
+    Ok(Target::And(both))
+}
+
+fn either(alloc: Global) -> Result<Target, NoMemory> {
     let mut either = Items::new(alloc);
-    either.push(Target::And(both))?;
+    either.push(both(alloc)?)?;
     either.push(Target::Const(SqlType::Bool, Value::Bool(true)))?;
-    Ok(Target::Not(Boxed::new(alloc, Target::Or(either))?))
+    Ok(Target::Or(either))
+}
+
+/// A condition with each form of targets: `NOT (- b + 7 < $1 AND count(*) IS NULL OR true)`.
+fn condition(alloc: Global) -> Result<Target, NoMemory> {
+    Ok(Target::Not(Boxed::new(alloc, either(alloc)?)?))
+}
+
+fn minus(alloc: Global) -> Result<Target, NoMemory> {
+    let inner = Boxed::new(alloc, column())?;
+    Ok(Target::Negate(SqlType::Int4, inner))
+}
+
+fn sum(alloc: Global) -> Result<Target, NoMemory> {
+    let minus = Boxed::new(alloc, minus(alloc)?)?;
+    let seven = Boxed::new(alloc, Target::Const(SqlType::Int4, Value::Int4(7)))?;
+    Ok(Target::Arithmetic(ArithmeticOp::Add, SqlType::Int4, minus, seven))
 }
 
 fn less(alloc: Global) -> Result<Target, NoMemory> {
-    let minus = Boxed::new(
-        alloc,
-        Target::Negate(SqlType::Int4, Boxed::new(alloc, column())?),
-    )?;
-    let seven = Boxed::new(alloc, Target::Const(SqlType::Int4, Value::Int4(7)))?;
-    let sum = Target::Arithmetic(ArithmeticOp::Add, SqlType::Int4, minus, seven);
+    let sum = Boxed::new(alloc, sum(alloc)?)?;
     let param = Boxed::new(alloc, Target::Param(SqlType::Int8, 1))?;
-    Ok(Target::Compare(CompareOp::Less, Boxed::new(alloc, sum)?, param))
+    Ok(Target::Compare(CompareOp::Less, sum, param))
 }
 
 fn empty(alloc: Global) -> Query {
@@ -86,13 +108,34 @@ fn empty(alloc: Global) -> Query {
     }
 }
 
+#[derive(Clone, Copy)]
+enum Form {
+    Table,
+    View,
+    Derived,
+}
+
+fn item(alloc: Global, form: Form, id: u32) -> Result<Item, NoMemory> {
+    let relation = relation(alloc, id)?;
+    match form {
+        Form::Table => Ok(Item::Table(relation)),
+        Form::View => Ok(Item::View(relation)),
+        Form::Derived => Ok(Item::Derived(relation, Boxed::new(alloc, empty(alloc))?)),
+    }
+}
+
+const ITEMS: [(Form, u32); 4] = [
+    (Form::Table, 7),
+    (Form::View, 3),
+    (Form::Derived, 5),
+    (Form::Table, 3),
+];
+
 fn items(alloc: Global) -> Result<ItemList, NoMemory> {
     let mut items = Items::new(alloc);
-    items.push(Item::Table(relation(alloc, 7)?))?;
-    items.push(Item::View(relation(alloc, 3)?))?;
-    let block = Boxed::new(alloc, empty(alloc))?;
-    items.push(Item::Derived(relation(alloc, 5)?, block))?;
-    items.push(Item::Table(relation(alloc, 3)?))?;
+    for (form, id) in &ITEMS {
+        items.push(item(alloc, *form, *id)?)?;
+    }
     Ok(items)
 }
 
@@ -133,39 +176,50 @@ fn sample(alloc: Global) -> Result<Query, NoMemory> {
     })
 }
 
-fn named(alloc: Global) -> Result<IdList, NoMemory> {
-    direct(alloc, &sample(alloc)?.copy(alloc)?)
+fn copied(alloc: Global) -> Result<Query, NoMemory> {
+    sample(alloc)?.copy(alloc)
 }
 
 #[test]
 fn queries_are_copied(rt: HostRuntime) -> Result<(), Fail> {
-    let ids = named(rt.alloc())?;
+    let ids = direct(rt.alloc(), &copied(rt.alloc())?)?;
     assert_eq!(rt; ids.as_slice(), [ObjId(3), ObjId(5), ObjId(7)].as_slice());
     Ok(())
 }
 
+fn copied_condition(alloc: Global) -> Result<Target, NoMemory> {
+    condition(alloc)?.copy(alloc)
+}
+
 #[test]
 fn conditions_are_copied(rt: HostRuntime) -> Result<(), Fail> {
-    let cond = condition(rt.alloc())?.copy(rt.alloc())?;
-    assert!(rt; cond.is_fallible());
-    assert_eq!(rt; cond.kind(), SqlType::Bool);
+    let cond = copied_condition(rt.alloc())?;
+    assert!(rt; cond.is_fallible() && cond.kind() == SqlType::Bool);
     assert!(rt; !count().is_fallible());
     Ok(())
 }
 
+/// The column of a copied assignment.
+fn copied_column(alloc: Global, column: AssignedColumn) -> Result<AssignedColumn, NoMemory> {
+    let value = self::column();
+    Ok(Assignment { column, value }.copy(alloc)?.column)
+}
+
+/// How many rows of targets a copy of one has.
+fn copied_rows(alloc: Global) -> Result<usize, NoMemory> {
+    let mut rows: ListOf<TargetList> = ListOf::new(alloc);
+    rows.push(ListOf::new(alloc))?;
+    Ok(rows.copy(alloc)?.as_slice().len())
+}
+
 #[test]
 fn other_values_are_copied(rt: HostRuntime) -> Result<(), Fail> {
-    let assignment = Assignment {
-        column: AssignedColumn {
-            id: ColId(2),
-            kind: SqlType::Int2,
-        },
-        value: column(),
+    let column = AssignedColumn {
+        id: ColId(2),
+        kind: SqlType::Int2,
     };
-    let mut rows: ListOf<TargetList> = ListOf::new(rt.alloc());
-    rows.push(ListOf::new(rt.alloc()))?;
-    assert_eq!(rt; assignment.copy(rt.alloc())?.column, assignment.column);
-    assert_eq!(rt; rows.copy(rt.alloc())?.as_slice().len(), 1);
+    assert_eq!(rt; copied_column(rt.alloc(), column)?, column);
+    assert_eq!(rt; copied_rows(rt.alloc())?, 1);
     let result = ResultType { columns: None };
     assert!(rt; result.copy(rt.alloc())?.columns.is_none());
     Ok(())

@@ -1,7 +1,7 @@
 ghost use Rattle.std.specs.Prelude.{OnOk};
 ghost use Rattle.savepoints.specs.Settings.{KeepsMarks};
 
-use q_base::{ListOf, Mode, NoMemory, SetValue, Setting, Stop, Str};
+use q_base::{ListOf, Mode, NoMemory, SetValue, Setting, SqlError, Stop, Str};
 use savepoints::Settings;
 use std::alloc::Global;
 use std::test::Fail;
@@ -86,6 +86,16 @@ fn shown(alloc: Global, settings: &Settings, name: &str) -> Result<Vec<u8>, Fail
     Ok(out)
 }
 
+/// The SQLSTATE and the arguments.
+fn shown_refusal(alloc: Global, error: &SqlError) -> Result<Vec<u8>, NoMemory> {
+    let mut out = Vec::from_slice(alloc, error.code.sqlstate().as_bytes())?;
+    for argument in error.args.as_slice() {
+        out.push(b' ')?;
+        out.extend_from_slice(argument.as_str().as_bytes())?;
+    }
+    Ok(out)
+}
+
 /// What SHOW prints after SET, or the refusal with its arguments.
 fn set_and_show(
     alloc: Global,
@@ -93,16 +103,10 @@ fn set_and_show(
     name: &str,
     texts: &[&str],
 ) -> Result<Vec<u8>, Fail> {
-    match settings.set(name, &value_of(alloc, texts)?, false) {
+    let value = value_of(alloc, texts)?;
+    match settings.set(name, &value, false) {
         Ok(()) => shown(alloc, settings, name),
-        Err(Stop::Sql(error)) => {
-            let mut out = Vec::from_slice(alloc, error.code.sqlstate().as_bytes())?;
-            for argument in error.args.as_slice() {
-                out.push(b' ')?;
-                out.extend_from_slice(argument.as_str().as_bytes())?;
-            }
-            Ok(out)
-        }
+        Err(Stop::Sql(error)) => Ok(shown_refusal(alloc, &error)?),
         Err(Stop::NoMemory) => Ok(Vec::new(alloc)),
     }
 }
@@ -135,20 +139,25 @@ fn shows(alloc: Global, settings: &Settings, path: &str, sort: &str) -> Result<b
     Ok(path_is && shown(alloc, settings, "enable_sort")?.as_slice() == sort.as_bytes())
 }
 
+/// The changes of a block behind one that has ended, and then those behind a savepoint taken back.
+fn change(alloc: Global, settings: &mut Settings) -> Result<(), Fail> {
+    set(alloc, settings, "search_path", "a", false)?;
+    settings.commit();
+    set(alloc, settings, "search_path", "b", true)?;
+    set(alloc, settings, "enable_sort", "off", true)?;
+    let savepoint = settings.mark();
+    set(alloc, settings, "search_path", "c", false)?;
+    set(alloc, settings, "enable_sort", "on", false)?;
+    settings.rollback_to(savepoint);
+    Ok(())
+}
+
 #[test]
 fn changes_end_and_are_taken_back(rt: HostRuntime) -> Result<(), Fail> {
-    let alloc = rt.alloc();
-    let mut settings = Settings::new(alloc, Mode::Auto)?;
-    set(alloc, &mut settings, "search_path", "a", false)?;
+    let mut settings = Settings::new(rt.alloc(), Mode::Auto)?;
+    change(rt.alloc(), &mut settings)?;
+    assert!(rt; shows(rt.alloc(), &settings, "b", "off")?);
     settings.commit();
-    set(alloc, &mut settings, "search_path", "b", true)?;
-    set(alloc, &mut settings, "enable_sort", "off", true)?;
-    let savepoint = settings.mark();
-    set(alloc, &mut settings, "search_path", "c", false)?;
-    set(alloc, &mut settings, "enable_sort", "on", false)?;
-    settings.rollback_to(savepoint);
-    assert!(rt; shows(alloc, &settings, "b", "off")?);
-    settings.commit();
-    assert!(rt; shows(alloc, &settings, "a", "on")?);
+    assert!(rt; shows(rt.alloc(), &settings, "a", "on")?);
     Ok(())
 }

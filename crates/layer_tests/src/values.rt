@@ -33,21 +33,33 @@ fn text(alloc: Global, text: &str) -> Result<Value, NoMemory> {
     Ok(Value::Text(Str::from_text(alloc, text)?))
 }
 
+fn reread(alloc: Global) -> Result<Value, Stop> {
+    Ok(parse_value(alloc, " +7\n", SqlType::Int2)?.copy(alloc)?)
+}
+
 /// What commands can't write yet; the rest is in `examples/texts_as_values.sql`.
 #[test]
 fn values_are_read_and_converted(rt: HostRuntime) -> Result<(), Fail> {
-    let alloc = rt.alloc();
-    let value = parse_value(alloc, " +7\n", SqlType::Int2)?.copy(alloc)?;
-    let found = converted(alloc, value, SqlType::Int8)?;
+    let found = converted(rt.alloc(), reread(rt.alloc())?, SqlType::Int8)?;
     assert_eq!(rt; found.as_slice(), b"7".as_slice());
-    let found = converted(alloc, Value::Int2(-5), SqlType::Text)?;
+    let found = converted(rt.alloc(), Value::Int2(-5), SqlType::Text)?;
     assert_eq!(rt; found.as_slice(), b"-5".as_slice());
-    let found = converted(alloc, text(alloc, "1")?, SqlType::Int4)?;
-    assert_eq!(rt; found.as_slice(), b"42804".as_slice());
-    let found = converted(alloc, text(alloc, "1")?, SqlType::Int8)?;
-    assert_eq!(rt; found.as_slice(), b"42804".as_slice());
-    let found = converted(alloc, text(alloc, "t")?, SqlType::Bool)?;
-    assert_eq!(rt; found.as_slice(), b"42804".as_slice());
+    Ok(())
+}
+
+/// Texts, and types that they are not converted to.
+const OTHER: [(&str, SqlType); 3] = [
+    ("1", SqlType::Int4),
+    ("1", SqlType::Int8),
+    ("t", SqlType::Bool),
+];
+
+#[test]
+fn texts_are_not_converted(rt: HostRuntime) -> Result<(), Fail> {
+    for (written, kind) in &OTHER {
+        let found = converted(rt.alloc(), text(rt.alloc(), written)?, *kind)?;
+        assert_eq!(rt; found.as_slice(), b"42804".as_slice());
+    }
     Ok(())
 }
 
@@ -147,19 +159,37 @@ fn a_list_is_a_feed(rt: HostRuntime) -> Result<(), Fail> {
     Ok(())
 }
 
+/// Two values, whether the order descends and nulls come first, and how they are ordered then.
+const ORDERED: [(Value, Value, bool, bool, Ordering); 3] = [
+    (
+        Value::Int8(5),
+        Value::Int2(10),
+        true,
+        false,
+        Ordering::Greater,
+    ),
+    (Value::Null, Value::Int2(10), true, false, Ordering::Greater),
+    (
+        Value::Bool(false),
+        Value::Int2(10),
+        false,
+        true,
+        Ordering::Greater,
+    ),
+];
+
 #[test]
 fn values_are_ordered(rt: HostRuntime) {
-    let (five, ten) = (Value::Int8(5), Value::Int2(10));
-    assert_eq!(rt; compare3(&five, &ten), Some(Ordering::Less));
-    assert_eq!(rt; order_values(&five, &ten, true, false), Ordering::Greater);
-    assert_eq!(rt;
-        order_values(&Value::Null, &ten, true, false),
-        Ordering::Greater
-    );
-    assert_eq!(rt;
-        order_values(&Value::Bool(false), &ten, false, true),
-        Ordering::Greater
-    );
+    for (left, right, descending, nulls_first, expected) in &ORDERED {
+        let order = order_values(left, right, *descending, *nulls_first);
+        assert!(rt; order == *expected);
+    }
+}
+
+#[test]
+fn values_are_compared(rt: HostRuntime) {
+    let order = compare3(&Value::Int8(5), &Value::Int2(10));
+    assert_eq!(rt; order, Some(Ordering::Less));
     assert_eq!(rt; Value::Null.kind(), None);
-    assert_eq!(rt; five.kind(), Some(SqlType::Int8));
+    assert_eq!(rt; Value::Int8(5).kind(), Some(SqlType::Int8));
 }
