@@ -128,7 +128,10 @@ impl Session {
             Command::Statement(tree) => self.select(tree, out, work),
             Command::Prepare(tree) => self.prepare(tree, out, work),
             Command::Execute(tree) => self.execute(tree, out),
-            _ => Err(refusal(self.alloc, Code::NotBuilt)),
+            other => {
+                drop(other);
+                Err(refusal(self.alloc, Code::NotBuilt))
+            }
         }
     }
 }

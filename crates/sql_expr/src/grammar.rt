@@ -29,20 +29,6 @@ use sql_tree::{ColumnRef, Expr, Literal, Numeral};
 use sqlite_items::Items;
 use std::alloc::Global;
 
-/// What was read, or the way out past trees that are dropped by name: that is proved much sooner than the drop that `?`
-/// adds at each place.
-macro_rules! or_drop {
-    ($read:expr, $($tree:ident),+) => {
-        match $read {
-            Ok(read) => read,
-            Err(stop) => {
-                $(drop($tree);)+
-                return Err(stop);
-            }
-        }
-    };
-}
-
 /// The lines of the grammar to which a nested expression leads back.
 #[derive(Clone, Copy)]
 pub enum Level {

@@ -1,6 +1,20 @@
 //! The load of a command, and its expressions.
 #![tactic(auto)]
 
+/// What was read or made, or the way out past trees that are dropped by name: that is proved much sooner than the drop
+/// that `?` adds at each place.
+macro_rules! or_drop {
+    ($read:expr, $($tree:ident),+) => {
+        match $read {
+            Ok(read) => read,
+            Err(stop) => {
+                $(drop($tree);)+
+                return Err(stop);
+            }
+        }
+    };
+}
+
 mod cursor;
 mod grammar;
 mod levels;

@@ -7,6 +7,12 @@ use sql_tree::{Arithmetic, Comparison, Expr};
 use sqlite_items::{Boxed, Items};
 use std::alloc::Global;
 
+fn boxed(alloc: Global, expr: Expr) -> Result<Boxed<Expr>, NoMemory>
+    ensures { IfOk result (λ tree. tree ≡ expr) }
+{
+    Ok(Boxed::new(alloc, expr)?)
+}
+
 pub(crate) fn call(alloc: Global, function: Str, argument: Expr) -> Result<Expr, NoMemory>
     ensures { IfOk result (λ expr. expr ≡ Expr.Call function argument) }
 {
@@ -27,7 +33,7 @@ pub(crate) fn arithmetic(
 ) -> Result<Expr, NoMemory>
     ensures { IfOk result (λ expr. expr ≡ Expr.Arithmetic operator left right) }
 {
-    let left = Boxed::new(alloc, left)?;
+    let left = or_drop!(boxed(alloc, left), right);
     Ok(Expr::Arithmetic(operator, left, Boxed::new(alloc, right)?))
 }
 
@@ -39,7 +45,7 @@ pub(crate) fn comparison(
 ) -> Result<Expr, NoMemory>
     ensures { IfOk result (λ expr. expr ≡ Expr.Comparison operator left right) }
 {
-    let left = Boxed::new(alloc, left)?;
+    let left = or_drop!(boxed(alloc, left), right);
     Ok(Expr::Comparison(operator, left, Boxed::new(alloc, right)?))
 }
 
@@ -69,8 +75,8 @@ pub(crate) fn between(
 ) -> Result<Expr, NoMemory>
     ensures { IfOk result (λ expr. expr ≡ Expr.Between operand low high negated) }
 {
-    let operand = Boxed::new(alloc, operand)?;
-    let low = Boxed::new(alloc, low)?;
+    let operand = or_drop!(boxed(alloc, operand), low, high);
+    let low = or_drop!(boxed(alloc, low), high);
     Ok(Expr::Between(operand, low, Boxed::new(alloc, high)?, negated))
 }
 

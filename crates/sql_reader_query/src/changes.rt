@@ -166,8 +166,8 @@ pub(crate) fn searched(
 ) -> Result<Statement, Stop>
     ensures { Reads (spec.searched change cursor.old) result cursor.new }
 {
-    let condition = condition(alloc, cursor, "where")?;
-    let returning = returning(alloc, cursor)?;
+    let condition = or_drop!(condition(alloc, cursor, "where"), change);
+    let returning = or_drop!(returning(alloc, cursor), change, condition);
     Ok(statement_of(change, condition, returning))
 }
 
@@ -201,8 +201,8 @@ fn positioned(
 ) -> Result<PositionedTree, Stop>
     ensures { Reads (spec.positioned change cursor.old) result cursor.new }
 {
-    let position = position(alloc, cursor)?;
-    let returning = returning(alloc, cursor)?;
+    let position = or_drop!(position(alloc, cursor), change);
+    let returning = or_drop!(returning(alloc, cursor), change, position);
     Ok(PositionedTree {
         statement: statement_of(change, None, returning),
         cursor: position,

@@ -1,6 +1,20 @@
 //! Queries and row changes, read from tokens: a function for each line of their grammar.
 #![tactic(auto)]
 
+/// What was read, or the way out past what was read before, which is dropped by name: that is proved much sooner than the
+/// drop that `?` adds at each place.
+macro_rules! or_drop {
+    ($read:expr, $($tree:ident),+) => {
+        match $read {
+            Ok(read) => read,
+            Err(stop) => {
+                $(drop($tree);)+
+                return Err(stop);
+            }
+        }
+    };
+}
+
 mod changes;
 mod from_clause;
 mod limits;

@@ -57,7 +57,7 @@ fn computed(alloc: Global, cursor: &mut Cursor<'_>) -> Result<OutputItem, Stop>
     ensures { Reads (spec.computed cursor.old) result cursor.new }
 {
     let expr = expression(alloc, cursor)?;
-    let alias = alias(alloc, cursor)?;
+    let alias = or_drop!(alias(alloc, cursor), expr);
     Ok(OutputItem::Expr(expr, alias))
 }
 

@@ -119,7 +119,7 @@ impl Element for OrderItem {
     fn read(alloc: Global, cursor: &mut Cursor<'_>) -> Result<OrderItem, Stop> {
         let expr = expression(alloc, cursor)?;
         let descending = eat_descending(cursor);
-        let nulls_first = nulls_first(alloc, cursor, descending)?;
+        let nulls_first = or_drop!(nulls_first(alloc, cursor, descending), expr);
         Ok(OrderItem {
             expr,
             descending,
@@ -145,9 +145,9 @@ pub(crate) fn selection(alloc: Global, cursor: &mut Cursor<'_>) -> Result<Select
     ensures { Reads (spec.selection cursor.old) result cursor.new }
 {
     let core = core_of(alloc, cursor)?;
-    let grouping = grouping(alloc, cursor)?;
-    let order = order(alloc, cursor)?;
-    let limits = limits(alloc, cursor)?;
+    let grouping = or_drop!(grouping(alloc, cursor), core);
+    let order = or_drop!(order(alloc, cursor), core, grouping);
+    let limits = or_drop!(limits(alloc, cursor), core, grouping, order);
     Ok(Select {
         core,
         grouping,
