@@ -113,6 +113,7 @@ fn paired(alloc: Global, state: &mut State, left: Node, right: Node) -> Result<O
     }
 }
 
+/// Both operands, where the second isn't refused.
 fn before(left: Target, right: Result<Target, Stop>) -> Result<Operands, Stop>
     ensures { spec.Beside (λ right. spec.pair left right) right result }
 {
@@ -125,6 +126,7 @@ fn before(left: Target, right: Result<Target, Stop>) -> Result<Operands, Stop>
     }
 }
 
+/// Both operands, where the first isn't refused.
 fn after(left: Result<Target, Stop>, right: Target) -> Result<Operands, Stop>
     ensures { spec.Beside (λ left. spec.pair left right) left result }
 {
@@ -167,6 +169,7 @@ pub(crate) fn pair_typed(
     }
 }
 
+/// As `pair_typed` at texts, in a place that gives a parameter its type.
 fn pair_given(alloc: Global, state: &mut State, left: Node, right: Node) -> Result<Operands, Stop>
     ensures { Does (spec.pair_given left right state.old) result state.new }
 {
@@ -224,9 +227,16 @@ fn no_operator(alloc: Global, sign: &str, left: SqlType, right: SqlType) -> Stop
 fn compare_node(alloc: Global, op: CompareOp, operands: Operands) -> Result<Target, NoMemory>
     ensures { IfOk result (λ target. target ≡ Target.Compare op operands.left operands.right) }
 {
+    let (left, right) = boxed(alloc, operands)?;
+    Ok(Target::Compare(op, left, right))
+}
+
+fn boxed(alloc: Global, operands: Operands) -> Result<(Boxed<Target>, Boxed<Target>), NoMemory>
+    ensures { IfOk result (λ pair. (pair.0 ≡ operands.left) × (pair.1 ≡ operands.right)) }
+{
     let Operands { left, right } = operands;
     let left = Boxed::new(alloc, left)?;
-    Ok(Target::Compare(op, left, Boxed::new(alloc, right)?))
+    Ok((left, Boxed::new(alloc, right)?))
 }
 
 /// Arithmetic: 42725 where neither operand has a type, 42883 where one is no integer, then 0A000 by its place.
@@ -289,9 +299,8 @@ fn arithmetic_node(
 ) -> Result<Target, NoMemory>
     ensures { IfOk result (λ target. target ≡ Target.Arithmetic op kind operands.left operands.right) }
 {
-    let Operands { left, right } = operands;
-    let left = Boxed::new(alloc, left)?;
-    Ok(Target::Arithmetic(op, kind, left, Boxed::new(alloc, right)?))
+    let (left, right) = boxed(alloc, operands)?;
+    Ok(Target::Arithmetic(op, kind, left, right))
 }
 
 /// A unary minus, by the same causes.

@@ -218,8 +218,8 @@ fn part_outputs(alloc: Global, outputs: Outputs) -> Result<Split, NoMemory>
     for output in outputs.into_vec() {
         let Output { target, name } = output;
         let kind = target.kind();
-        columns.push(ResultColumn { name, kind })?;
         targets.push(target)?;
+        columns.push(ResultColumn { name, kind })?;
     }
     Ok(Split { targets, columns })
 }
