@@ -5,6 +5,7 @@ use Rattle.q_base.specs.declared.errors.SqlError.{SqlError}
 use Rattle.q_value.specs.declared.value.SqlType.TheVariants as kind
 use Rattle.query_tree.specs.declared.target.Target.{Target}
 use Rattle.query_tree.specs.declared.target.Target.TheVariants as target
+use Rattle.sql_tree.specs.declared.expr.Arithmetic.{Arithmetic}
 use Rattle.sql_tree.specs.declared.expr.Comparison.{Comparison}
 use Rattle.sql_tree.specs.declared.expr.Comparison.TheVariants as comparing
 use Rattle.sql_tree.specs.declared.expr.Expr.{Expr}
@@ -17,7 +18,7 @@ use Rattle.analyzer.specs.declared.state.Place.{Place}
 use Rattle.analyzer.specs.Aggregates.{called, called_star}
 use Rattle.analyzer.specs.Analysis.{Outcome, Analysis, ◌>>=◌, pure, lift}
 use Rattle.analyzer.specs.Nodes.{Text, naming, go_on, literal, typed, condition_of}
-use Rattle.analyzer.specs.Operators.{comparison, arithmetic, minus}
+use Rattle.analyzer.specs.Operators.{comparison, arithmetic, minus, pair_typed}
 use Rattle.analyzer.specs.Params.{param}
 
 -- what an expression is where it stands
@@ -43,6 +44,10 @@ no_column (Some item) name = naming MissingFromEntry item
 
 unfoldable pub column : ColumnRef → Result Node SqlError
 column written = Err (no_column written.item written.name)
+
+-- arithmetic on what was found and an expression
+abbrev pub arithmetic_with : Arithmetic → Node → Meaning → Meaning
+arithmetic_with op left right place = operand right place >>= (λ r. arithmetic place op left r)
 
 -- what was found, compared with an expression
 abbrev pub compare_to : Comparison → Node → Meaning → Meaning
@@ -92,7 +97,7 @@ any_of found negated = go_on (joined found) (λ whole. negated_if negated whole)
 
 unfoldable pub both_of : Node → Node → Bool → Result Node SqlError
 both_of low high negated =
-    go_on (typed kind.Bool low) (λ l. go_on (typed kind.Bool high) (λ h. negated_if negated (node.Typed (target.And (l ∷ h ∷ [])))))
+    go_on (pair_typed kind.Bool low high) (λ both. negated_if negated (node.Typed (target.And (both.left ∷ both.right ∷ []))))
 
 unfoldable pub conditions : Text → List Node → Result (List Target) SqlError
 conditions name parts = each_of (condition_of name) [] parts
@@ -111,7 +116,7 @@ node_meaning (Expr-F.Column name) place = lift (column name)
 node_meaning (Expr-F.Call function argument) place = operand argument (inside place) >>= (λ a. called place function a)
 node_meaning (Expr-F.CallStar function) place = called_star place function
 node_meaning (Expr-F.Minus inner) place = operand inner place >>= (λ n. lift (minus place n))
-node_meaning (Expr-F.Arithmetic op left right) place = operand left place >>= (λ l. operand right place >>= (λ r. arithmetic place op l r))
+node_meaning (Expr-F.Arithmetic op left right) place = operand left place >>= (λ l. arithmetic_with op l right place)
 node_meaning (Expr-F.Comparison op left right) place = operand left place >>= (λ l. compare_to op l right place)
 node_meaning (Expr-F.IsNull inner negated) place = operand inner place >>= (λ n. lift (null_test n negated))
 node_meaning (Expr-F.InList inner values negated) place = each_compared inner values place >>= (λ found. lift (any_of found negated))
@@ -129,3 +134,8 @@ meaning = fold-Expr Meaning node_meaning
 abbrev pub each_compared_in : Expr-F Expr → Place → Analysis (List Node)
 each_compared_in (Expr-F.InList inner values negated) place = each_compared (meaning inner) (map meaning values) place
 each_compared_in _ place = pure []
+
+-- the second comparison of a BETWEEN; another expression has none
+abbrev pub second_compared : Expr-F Expr → Meaning
+second_compared (Expr-F.Between inner low high negated) place = compared comparing.LessEqual (meaning inner) (meaning high) place
+second_compared _ place = pure node.Refused

@@ -29,7 +29,7 @@ use Rattle.analyzer.specs.declared.node.Node.TheVariants as node
 use Rattle.analyzer.specs.declared.operators.Operands.{Operands}
 use Rattle.analyzer.specs.declared.state.Place.{Place}
 use Rattle.analyzer.specs.Analysis.{Analysis, ◌>>=◌, pure, refuse, lift}
-use Rattle.analyzer.specs.Nodes.{Text, naming, naming_three, typed, given, is_typed, is_refused}
+use Rattle.analyzer.specs.Nodes.{Text, naming, naming_three, typed, given, is_typed, is_refused, go_on}
 
 abbrev pub compare_op : Comparison → CompareOp
 compare_op comparing.Equal = ordering.Equal
@@ -77,17 +77,20 @@ arithmetic_key computing.Divide = key.Divide
 abbrev pub pair : Target → Target → Operands
 pair left right = record { left = left; right = right }
 
+-- an operand beside one that may have been refused
+abbrev pub Beside : (Target → Operands) → Result Target Stop → Result Operands Stop → Type 0
+Beside pair (Ok other) result = result ≡ Ok (pair other)
+Beside pair (Err stop) result = result ≡ Err stop
+
+abbrev pub pair_typed : SqlType → Node → Node → Result Operands SqlError
+pair_typed kind left right = go_on (typed kind left) (λ l. go_on (typed kind right) (λ r. Ok (pair l r)))
+
+abbrev pub pair_given : Node → Node → Analysis Operands
+pair_given left right = given kind.Text left >>= (λ l. given kind.Text right >>= (λ r. pure (pair l r)))
+
 -- two operands without a type are texts; a refused one gives a parameter beside it no type
 unfoldable pub texts : Node → Node → Analysis Operands
-texts left right =
-    if is_refused left || is_refused right then (do
-      l ← lift (typed kind.Text left)
-      r ← lift (typed kind.Text right)
-      pure (pair l r))
-    else (do
-      l ← given kind.Text left
-      r ← given kind.Text right
-      pure (pair l r))
+texts left right = if is_refused left || is_refused right then lift (pair_typed kind.Text left right) else pair_given left right
 
 -- an operand without a type takes that of the other
 unfoldable pub paired : Node → Node → Analysis Operands

@@ -8,6 +8,7 @@ use Rattle.q_base.specs.Stops.{StopsBy}
 use Rattle.q_value.specs.declared.value.SqlType.{SqlType}
 use Rattle.q_value.specs.Conversions.{plain}
 use Rattle.query_tree.specs.declared.query.Aggregate.{Aggregate}
+use Rattle.query_tree.specs.declared.target.Target.{Target}
 use Rattle.query_tree.specs.Targets.{target_kind}
 use Rattle.sql_tree.specs.declared.select.Limits.{Limits}
 use Rattle.sql_tree.specs.declared.select.Select.{Select}
@@ -121,25 +122,26 @@ is_empty xs = length xs == 0
 unfoldable pub is_grouped : Select → List Aggregate → Bool
 is_grouped select aggregates = is_some select.grouping.having || not (is_empty select.grouping.keys) || not (is_empty aggregates)
 
-abbrev pub query_with : Select → Parts → List Aggregate → Split → Typed
-query_with select parts aggregates found = record {
+abbrev pub query_with : Select → List Target → KeyPart → CutPart → List Aggregate → Split → Typed
+query_with select conds key cut aggregates found = record {
   query = record {
     items = [];
-    conds = parts.list.conds;
+    conds = conds;
     targets = found.targets;
     grouped = is_grouped select aggregates;
-    keys = parts.key.keys;
+    keys = key.keys;
     aggregates = aggregates;
     aggregate_calls = calls_of_select select;
-    having = parts.key.having;
+    having = key.having;
     distinct = select.core.distinct;
-    order = parts.key.order;
-    limit = parts.cut.limit;
-    offset = parts.cut.offset;
+    order = key.order;
+    limit = cut.limit;
+    offset = cut.offset;
   };
   columns = found.columns;
 }
 
 -- the query that the parts make
 unfoldable pub query_of : Select → Parts → List Aggregate → Typed
-query_of select parts aggregates = query_with select parts aggregates (split_from (record { targets = []; columns = [] }) parts.list.outputs)
+query_of select parts aggregates =
+    query_with select parts.list.conds parts.key parts.cut aggregates (split_from (record { targets = []; columns = [] }) parts.list.outputs)

@@ -60,9 +60,13 @@ pub(crate) fn called(
     let argument = typed(alloc, argument, SqlType::Text)?;
     let Some(kind) = call_kind(function, argument.kind()) else {
         let name = argument.kind().name();
+        drop(argument);
         return Err(refusal_naming_two(alloc, Code::UnknownFunction, function, name));
     };
-    check_call(alloc, place, function, &argument)?;
+    if let Err(stop) = check_call(alloc, place, function, &argument) {
+        drop(argument);
+        return Err(stop);
+    }
     placed(state, kind, aggregate_of(function, argument))
 }
 
@@ -132,6 +136,7 @@ fn placed(state: &mut State, kind: SqlType, aggregate: Aggregate) -> Result<Node
     ensures { Does (spec.placed kind aggregate state.old) result state.new }
 {
     if let Some(number) = number_in(state.aggregates.as_slice(), &aggregate) {
+        drop(aggregate);
         return Ok(read_aggregate(kind, number));
     }
     let number = state.aggregates.as_slice().len();

@@ -57,10 +57,12 @@ fn argument(
 {
     let node = operand(alloc, state, argument_place(), written)?;
     let target = give(alloc, state, node, kind)?;
-    if is_assignable(target.kind(), kind) {
+    let found = target.kind();
+    if is_assignable(found, kind) {
         Ok(target)
     } else {
-        Err(not_assignable(alloc, number, target.kind(), kind))
+        drop(target);
+        Err(not_assignable(alloc, number, found, kind))
     }
 }
 

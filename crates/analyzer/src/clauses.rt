@@ -28,12 +28,23 @@ pub(crate) fn condition(
 ) -> Result<CondList, Stop>
     ensures { Does (spec.condition place clause.now written.now state.old) result state.new }
 {
-    let mut found = ListOf::new(alloc);
-    if let Some(written) = written {
-        let node = operand(alloc, state, place, written)?;
-        let whole = condition_of(alloc, node, clause)?;
-        part(alloc, &mut found, &whole)?;
+    match written {
+        None => Ok(ListOf::new(alloc)),
+        Some(written) => {
+            let node = operand(alloc, state, place, written)?;
+            let whole = condition_of(alloc, node, clause)?;
+            Ok(conjuncts(alloc, whole)?)
+        }
     }
+}
+
+fn conjuncts(alloc: Global, whole: Target) -> Result<CondList, NoMemory>
+    ensures { IfOk result (λ found. found ≡ spec.conjuncts whole) }
+{
+    let mut found = ListOf::new(alloc);
+    let parted = part(alloc, &mut found, &whole);
+    drop(whole);
+    parted?;
     Ok(found)
 }
 
@@ -96,7 +107,10 @@ fn counted(alloc: Global, state: &mut State, digits: &str, node: Node) -> Result
     let target = give(alloc, state, node, SqlType::Int8)?;
     match target.kind() {
         SqlType::Int2 | SqlType::Int4 | SqlType::Int8 => Ok(target),
-        other => Err(no_count(alloc, digits, other)),
+        other => {
+            drop(target);
+            Err(no_count(alloc, digits, other))
+        }
     }
 }
 

@@ -6,13 +6,13 @@ ghost use Rattle.analyzer.specs.Expressions as spec;
 
 use crate::aggregates::{called, called_star};
 use crate::node::{Node, condition_of, literal, typed};
-use crate::operators::{arithmetic, comparison, minus};
+use crate::operators::{Operands, arithmetic, comparison, minus, pair_typed};
 use crate::params::param;
 use crate::state::{Place, State};
 use q_base::{Code, ListOf, NoMemory, Stop, refusal_naming};
 use q_value::SqlType;
 use query_tree::Target;
-use sql_tree::{ColumnRef, Comparison, Expr};
+use sql_tree::{Arithmetic, ColumnRef, Comparison, Expr};
 use sqlite_items::{Boxed, Items};
 use std::alloc::Global;
 
@@ -60,8 +60,7 @@ pub(crate) fn expression(
         }
         Expr::Arithmetic(op, left, right) => {
             let left = operand(alloc, state, place, left.get())?;
-            let right = operand(alloc, state, place, right.get())?;
-            arithmetic(alloc, state, place, *op, left, right)
+            arithmetic_with(alloc, state, place, *op, left, right.get())
         }
         Expr::Comparison(op, left, right) => {
             let left = operand(alloc, state, place, left.get())?;
@@ -79,10 +78,13 @@ pub(crate) fn expression(
             let left = operand(alloc, state, place, inner.get())?;
             let op = Comparison::GreaterEqual;
             let low = compared_to(alloc, state, place, op, left, low.get())?;
-            let left = operand(alloc, state, place, inner.get())?;
-            let op = Comparison::LessEqual;
-            let high = compared_to(alloc, state, place, op, left, high.get())?;
-            both_of(alloc, low, high, *negated)
+            match second_compared(alloc, state, place, written) {
+                Ok(high) => both_of(alloc, low, high, *negated),
+                Err(stop) => {
+                    drop(low);
+                    Err(stop)
+                }
+            }
         }
         Expr::Not(inner) => {
             let inner = operand(alloc, state, place, inner.get())?;
@@ -99,6 +101,27 @@ pub(crate) fn expression(
     }
 }
 
+/// Arithmetic on what was found and an expression.
+#[cycle(expr)]
+fn arithmetic_with(
+    alloc: Global,
+    state: &mut State,
+    place: Place,
+    op: Arithmetic,
+    left: Node,
+    right: &Expr,
+) -> Result<Node, Stop>
+    ensures { Does (spec.arithmetic_with op left (spec.meaning right.now) place state.old) result state.new }
+{
+    match operand(alloc, state, place, right) {
+        Ok(right) => arithmetic(alloc, state, place, op, left, right),
+        Err(stop) => {
+            drop(left);
+            Err(stop)
+        }
+    }
+}
+
 /// A comparison of what was found with an expression.
 #[cycle(expr)]
 fn compare_to(
@@ -111,8 +134,13 @@ fn compare_to(
 ) -> Result<Node, Stop>
     ensures { Does (spec.compare_to op left (spec.meaning right.now) place state.old) result state.new }
 {
-    let right = operand(alloc, state, place, right)?;
-    comparison(alloc, state, op, left, right)
+    match operand(alloc, state, place, right) {
+        Ok(right) => comparison(alloc, state, op, left, right),
+        Err(stop) => {
+            drop(left);
+            Err(stop)
+        }
+    }
 }
 
 /// A comparison that is an operand of another expression.
@@ -153,6 +181,25 @@ fn each_compared(
             Ok(found)
         }
         _ => Ok(ListOf::new(alloc)),
+    }
+}
+
+/// The second comparison of BETWEEN, whose operand is analysed anew.
+#[cycle(expr)]
+fn second_compared(
+    alloc: Global,
+    state: &mut State,
+    place: Place,
+    written: &Expr,
+) -> Result<Node, Stop>
+    ensures { Does (spec.second_compared (out-Expr written.now) place state.old) result state.new }
+{
+    match written {
+        Expr::Between(inner, _, high, _) => {
+            let left = operand(alloc, state, place, inner.get())?;
+            compared_to(alloc, state, place, Comparison::LessEqual, left, high.get())
+        }
+        _ => Ok(Node::Refused),
     }
 }
 
@@ -265,9 +312,8 @@ fn truths(alloc: Global, found: NodeList) -> Result<Items<Target>, Stop>
 fn both_of(alloc: Global, low: Node, high: Node, negated: bool) -> Result<Node, Stop>
     ensures { Answers (spec.both_of low high negated) result }
 {
-    let low = typed(alloc, low, SqlType::Bool)?;
-    let high = typed(alloc, high, SqlType::Bool)?;
-    let both = two(alloc, low, high)?;
+    let Operands { left, right } = pair_typed(alloc, low, high, SqlType::Bool)?;
+    let both = two(alloc, left, right)?;
     negated_if(alloc, negated, Node::Typed(Target::And(both)))
 }
 

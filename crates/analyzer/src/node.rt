@@ -104,6 +104,9 @@ pub(crate) fn condition_of(alloc: Global, node: Node, name: &str) -> Result<Targ
     let target = typed(alloc, node, SqlType::Bool)?;
     match target.kind() {
         SqlType::Bool => Ok(target),
-        other => Err(refusal_naming_two(alloc, Code::ArgumentNotBoolean, name, other.name())),
+        other => {
+            drop(target);
+            Err(refusal_naming_two(alloc, Code::ArgumentNotBoolean, name, other.name()))
+        }
     }
 }

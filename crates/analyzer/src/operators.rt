@@ -102,14 +102,40 @@ fn paired(alloc: Global, state: &mut State, left: Node, right: Node) -> Result<O
 {
     match (left, right) {
         (Node::Typed(left), right) => {
-            let right = give(alloc, state, right, left.kind())?;
-            Ok(Operands { left, right })
+            let right = give(alloc, state, right, left.kind());
+            before(left, right)
         }
         (left, Node::Typed(right)) => {
-            let left = give(alloc, state, left, right.kind())?;
-            Ok(Operands { left, right })
+            let left = give(alloc, state, left, right.kind());
+            after(left, right)
         }
         (left, right) => texts(alloc, state, left, right),
+    }
+}
+
+/// Both operands, where the second isn't refused.
+fn before(left: Target, right: Result<Target, Stop>) -> Result<Operands, Stop>
+    ensures { spec.Beside (λ right. spec.pair left right) right result }
+{
+    match right {
+        Ok(right) => Ok(Operands { left, right }),
+        Err(stop) => {
+            drop(left);
+            Err(stop)
+        }
+    }
+}
+
+/// Both operands, where the first isn't refused.
+fn after(left: Result<Target, Stop>, right: Target) -> Result<Operands, Stop>
+    ensures { spec.Beside (λ left. spec.pair left right) left result }
+{
+    match left {
+        Ok(left) => Ok(Operands { left, right }),
+        Err(stop) => {
+            drop(right);
+            Err(stop)
+        }
     }
 }
 
@@ -119,13 +145,40 @@ fn texts(alloc: Global, state: &mut State, left: Node, right: Node) -> Result<Op
     ensures { Does (spec.texts left right state.old) result state.new }
 {
     if left.is_refused() || right.is_refused() {
-        let left = typed(alloc, left, SqlType::Text)?;
-        let right = typed(alloc, right, SqlType::Text)?;
-        Ok(Operands { left, right })
+        pair_typed(alloc, left, right, SqlType::Text)
     } else {
-        let left = give(alloc, state, left, SqlType::Text)?;
-        let right = give(alloc, state, right, SqlType::Text)?;
-        Ok(Operands { left, right })
+        pair_given(alloc, state, left, right)
+    }
+}
+
+/// Both operands with a type, where they have none.
+pub(crate) fn pair_typed(
+    alloc: Global,
+    left: Node,
+    right: Node,
+    kind: SqlType,
+) -> Result<Operands, Stop>
+    ensures { Answers (spec.pair_typed kind left right) result }
+{
+    match typed(alloc, left, kind) {
+        Ok(left) => before(left, typed(alloc, right, kind)),
+        Err(stop) => {
+            drop(right);
+            Err(stop)
+        }
+    }
+}
+
+/// As `pair_typed` at texts, in a place that gives a parameter its type.
+fn pair_given(alloc: Global, state: &mut State, left: Node, right: Node) -> Result<Operands, Stop>
+    ensures { Does (spec.pair_given left right state.old) result state.new }
+{
+    match give(alloc, state, left, SqlType::Text) {
+        Ok(left) => before(left, give(alloc, state, right, SqlType::Text)),
+        Err(stop) => {
+            drop(right);
+            Err(stop)
+        }
     }
 }
 
@@ -148,10 +201,14 @@ pub(crate) fn comparison(
 fn compared(alloc: Global, op: Comparison, operands: Operands) -> Result<Node, Stop>
     ensures { Answers (spec.compared op operands) result }
 {
-    let Operands { left, right } = operands;
-    match find_op(compare_key(op), left.kind(), right.kind()) {
-        Some(_) => Ok(Node::Typed(compare_node(alloc, compare_op(op), left, right)?)),
-        None => Err(no_operator(alloc, compare_sign(op), left.kind(), right.kind())),
+    let left = operands.left.kind();
+    let right = operands.right.kind();
+    match find_op(compare_key(op), left, right) {
+        Some(_) => Ok(Node::Typed(compare_node(alloc, compare_op(op), operands)?)),
+        None => {
+            drop(operands);
+            Err(no_operator(alloc, compare_sign(op), left, right))
+        }
     }
 }
 
@@ -167,16 +224,19 @@ fn no_operator(alloc: Global, sign: &str, left: SqlType, right: SqlType) -> Stop
     )
 }
 
-fn compare_node(
-    alloc: Global,
-    op: CompareOp,
-    left: Target,
-    right: Target,
-) -> Result<Target, NoMemory>
-    ensures { IfOk result (λ target. target ≡ Target.Compare op left right) }
+fn compare_node(alloc: Global, op: CompareOp, operands: Operands) -> Result<Target, NoMemory>
+    ensures { IfOk result (λ target. target ≡ Target.Compare op operands.left operands.right) }
 {
+    let (left, right) = boxed(alloc, operands)?;
+    Ok(Target::Compare(op, left, right))
+}
+
+fn boxed(alloc: Global, operands: Operands) -> Result<(Boxed<Target>, Boxed<Target>), NoMemory>
+    ensures { IfOk result (λ pair. (pair.0 ≡ operands.left) × (pair.1 ≡ operands.right)) }
+{
+    let Operands { left, right } = operands;
     let left = Boxed::new(alloc, left)?;
-    Ok(Target::Compare(op, left, Boxed::new(alloc, right)?))
+    Ok((left, Boxed::new(alloc, right)?))
 }
 
 /// Arithmetic: 42725 where neither operand has a type, 42883 where one is no integer, then 0A000 by its place.
@@ -192,6 +252,8 @@ pub(crate) fn arithmetic(
     ensures { Does (spec.arithmetic place op left right state.old) result state.new }
 {
     if !left.is_typed() && !right.is_typed() {
+        drop(left);
+        drop(right);
         let sign = arithmetic_sign(op);
         return Err(refusal_naming_three(
             alloc,
@@ -209,15 +271,17 @@ pub(crate) fn arithmetic(
 fn computed(alloc: Global, place: Place, op: Arithmetic, operands: Operands) -> Result<Node, Stop>
     ensures { Answers (spec.computed place op operands) result }
 {
-    let Operands { left, right } = operands;
-    let Some(row) = find_op(arithmetic_key(op), left.kind(), right.kind()) else {
-        return Err(no_operator(alloc, arithmetic_sign(op), left.kind(), right.kind()));
+    let left = operands.left.kind();
+    let right = operands.right.kind();
+    let Some(row) = find_op(arithmetic_key(op), left, right) else {
+        drop(operands);
+        return Err(no_operator(alloc, arithmetic_sign(op), left, right));
     };
     if !has_arithmetic(place) {
+        drop(operands);
         return Err(refusal(alloc, Code::ArithmeticNotSupported));
     }
-    let op = arithmetic_op(op);
-    Ok(Node::Typed(arithmetic_node(alloc, op, row.result, left, right)?))
+    Ok(Node::Typed(arithmetic_node(alloc, arithmetic_op(op), row.result, operands)?))
 }
 
 /// Within the argument of an aggregate the aggregate alone judges arithmetic.
@@ -231,13 +295,12 @@ fn arithmetic_node(
     alloc: Global,
     op: ArithmeticOp,
     kind: SqlType,
-    left: Target,
-    right: Target,
+    operands: Operands,
 ) -> Result<Target, NoMemory>
-    ensures { IfOk result (λ target. target ≡ Target.Arithmetic op kind left right) }
+    ensures { IfOk result (λ target. target ≡ Target.Arithmetic op kind operands.left operands.right) }
 {
-    let left = Boxed::new(alloc, left)?;
-    Ok(Target::Arithmetic(op, kind, left, Boxed::new(alloc, right)?))
+    let (left, right) = boxed(alloc, operands)?;
+    Ok(Target::Arithmetic(op, kind, left, right))
 }
 
 /// A unary minus, by the same causes.
@@ -252,10 +315,12 @@ pub(crate) fn minus(alloc: Global, place: Place, operand: Node) -> Result<Node, 
     match kind {
         SqlType::Int2 | SqlType::Int4 | SqlType::Int8 => {}
         SqlType::Text | SqlType::Bool => {
+            drop(operand);
             return Err(refusal_naming(alloc, Code::UnknownMinus, kind.name()));
         }
     }
     if !has_arithmetic(place) {
+        drop(operand);
         return Err(refusal(alloc, Code::ArithmeticNotSupported));
     }
     Ok(Node::Typed(Target::Negate(kind, Boxed::new(alloc, operand)?)))

@@ -86,7 +86,11 @@ pub(crate) fn read_select(alloc: Global, state: &mut State, written: &Select) ->
     ensures { Does (spec.read_select written.now state.old) result state.new }
 {
     let parts = read_parts(alloc, state, written)?;
-    check_select(alloc, state, written.core.distinct, &parts.list, &parts.key)?;
+    let distinct = written.core.distinct;
+    if let Err(stop) = check_select(alloc, state, distinct, &parts.list, &parts.key) {
+        drop(parts);
+        return Err(stop);
+    }
     Ok(parts)
 }
 
@@ -214,8 +218,8 @@ fn part_outputs(alloc: Global, outputs: Outputs) -> Result<Split, NoMemory>
     for output in outputs.into_vec() {
         let Output { target, name } = output;
         let kind = target.kind();
-        columns.push(ResultColumn { name, kind })?;
         targets.push(target)?;
+        columns.push(ResultColumn { name, kind })?;
     }
     Ok(Split { targets, columns })
 }
@@ -239,7 +243,30 @@ pub(crate) fn query_of(
 {
     let Parts { list, key, cut } = parts;
     let ListPart { outputs, conds } = list;
-    let Split { targets, columns } = part_outputs(alloc, outputs)?;
+    match part_outputs(alloc, outputs) {
+        Ok(split) => Ok(query_with(alloc, written, split, conds, key, cut, aggregates)),
+        Err(stop) => {
+            drop(conds);
+            drop(key);
+            drop(cut);
+            drop(aggregates);
+            Err(stop)
+        }
+    }
+}
+
+fn query_with(
+    alloc: Global,
+    written: &Select,
+    split: Split,
+    conds: CondList,
+    key: KeyPart,
+    cut: CutPart,
+    aggregates: AggregateList,
+) -> Typed
+    ensures { result ≡ spec.query_with written.now conds key cut aggregates split }
+{
+    let Split { targets, columns } = split;
     let grouped = is_grouped(written, &aggregates);
     let KeyPart {
         keys,
@@ -261,7 +288,7 @@ pub(crate) fn query_of(
         limit,
         offset,
     };
-    Ok(Typed { query, columns })
+    Typed { query, columns }
 }
 
 /// A query with GROUP BY, HAVING or an aggregate.

@@ -103,16 +103,33 @@ fn finish(alloc: Global, state: State, select: &Select, parts: Parts) -> Result<
         aggregates,
         ..
     } = state;
-    let params = types_of(alloc, known.as_slice())?;
-    let Typed { query, columns } = query_of(alloc, select, parts, aggregates)?;
-    let bound = Rc::new(alloc, Bound::Select(query))?;
-    let result = ResultType {
-        columns: Some(columns),
-    };
-    Ok(Analysed {
-        bound,
-        ids: ListOf::new(alloc),
-        params,
-        result,
-    })
+    let typed = query_of(alloc, select, parts, aggregates)?;
+    match types_of(alloc, known.as_slice()) {
+        Ok(params) => analysed_as(alloc, typed, params),
+        Err(stop) => {
+            drop(typed);
+            Err(stop)
+        }
+    }
+}
+
+fn analysed_as(alloc: Global, typed: Typed, params: TypeList) -> Result<Analysed, NoMemory>
+    ensures { IfOk result (λ analysed. spec.seen analysed ≡ spec.found_of typed params) }
+{
+    let Typed { query, columns } = typed;
+    match Rc::new(alloc, Bound::Select(query)) {
+        Ok(bound) => Ok(Analysed {
+            bound,
+            ids: ListOf::new(alloc),
+            params,
+            result: ResultType {
+                columns: Some(columns),
+            },
+        }),
+        Err(failed) => {
+            drop(columns);
+            drop(params);
+            Err(NoMemory::from(failed))
+        }
+    }
 }

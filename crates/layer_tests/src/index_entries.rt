@@ -117,21 +117,29 @@ fn entries_stand_in_order(rt: HostRuntime) -> Result<(), Fail> {
     Ok(())
 }
 
+/// The slots of the entries whose first value is 7 and whose second one is above 3 and up to 9.
+fn three_to_nine(alloc: Global, index: &Index) -> Result<Vec<u64>, NoMemory> {
+    let (low, high) = (edge(Some((3, false))), edge(Some((9, true))));
+    let range = second_between(alloc, Value::Int8(7), low, high)?;
+    slots(alloc, index, &range)
+}
+
+/// The slots of the entries whose first value is 7.
+fn sevens(alloc: Global, index: &Index) -> Result<Vec<u64>, NoMemory> {
+    let range = second_between(alloc, Value::Int2(7), None, None)?;
+    slots(alloc, index, &range)
+}
+
 #[test]
 fn entries_of_one_value_are_found(rt: HostRuntime) -> Result<(), Fail> {
-    let alloc = rt.alloc();
-    let mut index = sample(alloc)?;
-    let some = second_between(
-        alloc,
-        Value::Int8(7),
-        edge(Some((3, false))),
-        edge(Some((9, true))),
-    )?;
-    assert!(rt; has(alloc, &index, &some, &[5])?);
-    let all = second_between(alloc, Value::Int2(7), None, None)?;
-    assert!(rt; has(alloc, &index, &all, &[6, 7, 5, 4])?);
-    remove_two(alloc, &mut index)?;
-    assert!(rt; has(alloc, &index, &all, &[7, 5, 4])?);
+    let mut index = sample(rt.alloc())?;
+    let found = three_to_nine(rt.alloc(), &index)?;
+    assert_eq!(rt; found.as_slice(), [5].as_slice());
+    let found = sevens(rt.alloc(), &index)?;
+    assert_eq!(rt; found.as_slice(), [6, 7, 5, 4].as_slice());
+    remove_two(rt.alloc(), &mut index)?;
+    let found = sevens(rt.alloc(), &index)?;
+    assert_eq!(rt; found.as_slice(), [7, 5, 4].as_slice());
     Ok(())
 }
 
