@@ -1,10 +1,8 @@
-use q_base::{Code, Stop, Str, refusal};
-use sql_expr::Cursor;
-use sql_reader_catalog::{alter, analyze, create, drop_object, truncate};
-use sql_tokens::{Token, tokens};
+use crate::shared::{append, first_read, read, show_names};
+use q_base::{Stop, Str};
 use sql_tree::{
-    AlterAction, ColumnDef, Command, KeyKind, Literal, Nullability, ObjectKind, OnCommit, QName,
-    SchemaCommand, Statement, TableElement, TableTree,
+    AlterAction, ColumnDef, Command, IndexTree, KeyConstraint, KeyKind, Literal, Nullability,
+    ObjectKind, OnCommit, QName, SchemaCommand, Statement, TableElement, TableTree, ViewTree,
 };
 use std::alloc::{AllocError, Global};
 use std::test::Fail;
@@ -170,18 +168,6 @@ const REFUSED: [&str; 52] = [
     "alter table t alter a drop null",
 ];
 
-fn append(out: &mut String, before: &str, text: &str) -> Result<(), AllocError> {
-    out.push_str(before)?;
-    out.push_str(text)
-}
-
-fn show_names(out: &mut String, names: &[Str]) -> Result<(), AllocError> {
-    for name in names {
-        append(out, " ", name.as_str())?;
-    }
-    Ok(())
-}
-
 fn show_relation(out: &mut String, before: &str, name: &QName) -> Result<(), AllocError> {
     out.push_str(before)?;
     if let Some(schema) = &name.schema {
@@ -211,37 +197,53 @@ fn key_word(kind: KeyKind) -> &'static str {
     }
 }
 
-fn show_column(out: &mut String, def: &ColumnDef) -> Result<(), AllocError> {
-    append(out, def.name.as_str(), " ")?;
-    out.push_str(def.type_name.as_str())?;
-    out.push_str(match def.nullability {
+fn nullability_word(nullability: Nullability) -> &'static str {
+    match nullability {
         Nullability::Unsaid => "",
         Nullability::Null => " null",
         Nullability::NotNull => " notnull",
-    })?;
-    if let Some(value) = &def.default {
-        show_literal(out, " =", value)?;
     }
-    for kind in def.keys.as_slice() {
+}
+
+fn show_default(out: &mut String, value: &Option<Literal>) -> Result<(), AllocError> {
+    match value {
+        Some(value) => show_literal(out, " =", value),
+        None => Ok(()),
+    }
+}
+
+fn show_keys(out: &mut String, keys: &[KeyKind]) -> Result<(), AllocError> {
+    for kind in keys {
         append(out, " ", key_word(*kind))?;
     }
     Ok(())
 }
 
+fn show_column(out: &mut String, def: &ColumnDef) -> Result<(), AllocError> {
+    show_two(out, "", &def.name, &def.type_name)?;
+    out.push_str(nullability_word(def.nullability))?;
+    show_default(out, &def.default)?;
+    show_keys(out, def.keys.as_slice())
+}
+
+fn show_key(out: &mut String, key: &KeyConstraint) -> Result<(), AllocError> {
+    append(out, "[", key_word(key.kind))?;
+    show_names(out, key.columns.as_slice())?;
+    out.push(']')
+}
+
+fn show_element(out: &mut String, element: &TableElement) -> Result<(), AllocError> {
+    match element {
+        TableElement::Column(def) => show_column(out, def),
+        TableElement::Key(key) => show_key(out, key),
+    }
+}
+
 fn show_table(out: &mut String, before: &str, tree: &TableTree) -> Result<(), AllocError> {
     show_relation(out, before, &tree.name)?;
-    let mut between = " (";
-    for element in tree.elements.as_slice() {
-        out.push_str(between)?;
-        match element {
-            TableElement::Column(def) => show_column(out, def)?,
-            TableElement::Key(key) => {
-                append(out, "[", key_word(key.kind))?;
-                show_names(out, key.columns.as_slice())?;
-                out.push(']')?;
-            }
-        }
-        between = ", ";
+    for (index, element) in tree.elements.as_slice().iter().enumerate() {
+        out.push_str(if index == 0 { " (" } else { ", " })?;
+        show_element(out, element)?;
     }
     out.push(')')
 }
@@ -251,21 +253,25 @@ fn show_two(out: &mut String, before: &str, first: &Str, second: &Str) -> Result
     append(out, " ", second.as_str())
 }
 
+fn show_added(out: &mut String, def: &ColumnDef) -> Result<(), AllocError> {
+    out.push_str("add ")?;
+    show_column(out, def)
+}
+
+fn show_new_default(out: &mut String, column: &Str, value: &Literal) -> Result<(), AllocError> {
+    append(out, "default ", column.as_str())?;
+    show_literal(out, " ", value)
+}
+
 fn show_action(out: &mut String, action: &AlterAction) -> Result<(), AllocError> {
     match action {
-        AlterAction::AddColumn(def) => {
-            out.push_str("add ")?;
-            show_column(out, def)
-        }
+        AlterAction::AddColumn(def) => show_added(out, def),
         AlterAction::DropColumn(column) => append(out, "drop ", column.as_str()),
         AlterAction::RenameColumn(column, new) => show_two(out, "rename ", column, new),
         AlterAction::RenameTo(new) => append(out, "renamed ", new.as_str()),
         AlterAction::SetSchema(schema) => append(out, "set schema ", schema.as_str()),
         AlterAction::SetType(column, name) => show_two(out, "type ", column, name),
-        AlterAction::SetDefault(column, value) => {
-            append(out, "default ", column.as_str())?;
-            show_literal(out, " ", value)
-        }
+        AlterAction::SetDefault(column, value) => show_new_default(out, column, value),
         AlterAction::DropDefault(column) => append(out, "nodefault ", column.as_str()),
         AlterAction::SetNotNull(column) => append(out, "notnull ", column.as_str()),
         AlterAction::DropNotNull(column) => append(out, "null ", column.as_str()),
@@ -311,6 +317,28 @@ fn show_query(out: &mut String, query: &Statement) -> Result<(), AllocError> {
     }
 }
 
+fn show_index(out: &mut String, tree: &IndexTree) -> Result<(), AllocError> {
+    let words = if tree.unique {
+        "create unique "
+    } else {
+        "create index "
+    };
+    append(out, words, tree.name.as_str())?;
+    show_relation(out, " ", &tree.table)?;
+    show_names(out, tree.columns.as_slice())
+}
+
+fn show_view(out: &mut String, tree: &ViewTree) -> Result<(), AllocError> {
+    let words = if tree.replace {
+        "replace view "
+    } else {
+        "create view "
+    };
+    show_relation(out, words, &tree.name)?;
+    show_names(out, tree.columns.as_slice())?;
+    show_query(out, &tree.query)
+}
+
 fn show(out: &mut String, command: &Command) -> Result<(), AllocError> {
     match command {
         Command::Schema(inner) => show_schema(out, inner),
@@ -318,26 +346,8 @@ fn show(out: &mut String, command: &Command) -> Result<(), AllocError> {
         Command::CreateTempTable(tree) => {
             show_table(out, words_of_temp(tree.on_commit), &tree.table)
         }
-        Command::CreateIndex(tree) => {
-            let words = if tree.unique {
-                "create unique "
-            } else {
-                "create index "
-            };
-            append(out, words, tree.name.as_str())?;
-            show_relation(out, " ", &tree.table)?;
-            show_names(out, tree.columns.as_slice())
-        }
-        Command::CreateView(tree) => {
-            let words = if tree.replace {
-                "replace view "
-            } else {
-                "create view "
-            };
-            show_relation(out, words, &tree.name)?;
-            show_names(out, tree.columns.as_slice())?;
-            show_query(out, &tree.query)
-        }
+        Command::CreateIndex(tree) => show_index(out, tree),
+        Command::CreateView(tree) => show_view(out, tree),
         Command::Drop(tree) => {
             show_relation(out, words_of_drop(tree.kind, tree.cascade), &tree.name)
         }
@@ -349,65 +359,48 @@ fn show(out: &mut String, command: &Command) -> Result<(), AllocError> {
     }
 }
 
-fn command(alloc: Global, cursor: &mut Cursor<'_>) -> Result<Command, Stop> {
-    if cursor.eat_word("create") {
-        create(alloc, cursor)
-    } else if cursor.eat_word("drop") {
-        drop_object(alloc, cursor)
-    } else if cursor.eat_word("alter") {
-        alter(alloc, cursor)
-    } else if cursor.eat_word("truncate") {
-        truncate(alloc, cursor)
-    } else {
-        cursor.expect_word(alloc, "analyze")?;
-        analyze(alloc, cursor)
-    }
-}
-
-/// Writes the command that all of the tokens are. 42601 where they are none.
-fn read(alloc: Global, out: &mut String, tokens: &[Token]) -> Result<(), Stop> {
-    let mut cursor = Cursor::new(tokens);
-    let command = command(alloc, &mut cursor)?;
-    if cursor.left() > 0 {
-        return Err(refusal(alloc, Code::SyntaxError));
-    }
+/// Writes the command that a text spells.
+fn show_text(alloc: Global, out: &mut String, text: &str) -> Result<(), Stop> {
+    let command = read(alloc, text)?;
     show(out, &command)?;
     Ok(())
 }
 
-fn is_refused(alloc: Global, tokens: &[Token]) -> Result<bool, AllocError> {
+fn shown(alloc: Global, text: &str) -> Result<String, Stop> {
     let mut out = String::new(alloc);
-    match read(alloc, &mut out, tokens) {
-        Ok(()) => Ok(false),
-        Err(Stop::Sql(error)) => Ok(error.code == Code::SyntaxError),
-        Err(Stop::NoMemory) => Err(AllocError),
-    }
+    show_text(alloc, &mut out, text)?;
+    Ok(out)
 }
 
 #[test]
 fn commands_are_read(rt: HostRuntime) -> Result<(), Fail> {
-    for (text, tree) in READ {
-        let tokens = tokens(rt.alloc(), text)?;
-        let mut out = String::new(rt.alloc());
-        read(rt.alloc(), &mut out, tokens.as_slice())?;
-        assert_eq!(rt; out.as_str(), tree, "at {text}");
+    for (text, tree) in &READ {
+        assert_eq!(rt; shown(rt.alloc(), text)?.as_str(), *tree, "at {text}");
     }
-    for (text, tree) in ALTERED {
-        let mut whole = String::from_str(rt.alloc(), "alter table t ")?;
-        whole.push_str(text)?;
-        let tokens = tokens(rt.alloc(), whole.as_str())?;
-        let mut out = String::new(rt.alloc());
-        read(rt.alloc(), &mut out, tokens.as_slice())?;
-        assert_eq!(rt; out.as_str(), tree, "at {text}");
+    Ok(())
+}
+
+fn altered(alloc: Global, text: &str) -> Result<String, AllocError> {
+    let mut whole = String::from_str(alloc, "alter table t ")?;
+    whole.push_str(text)?;
+    Ok(whole)
+}
+
+#[test]
+fn changes_of_tables_are_read(rt: HostRuntime) -> Result<(), Fail> {
+    for (text, tree) in &ALTERED {
+        let whole = altered(rt.alloc(), text)?;
+        assert_eq!(rt;
+            shown(rt.alloc(), whole.as_str())?.as_str(),
+            *tree,
+            "at {text}"
+        );
     }
     Ok(())
 }
 
 #[test]
-fn what_is_no_command_is_refused(rt: HostRuntime) -> Result<(), Fail> {
-    for text in REFUSED {
-        let tokens = tokens(rt.alloc(), text)?;
-        assert!(rt; is_refused(rt.alloc(), tokens.as_slice())?, "at {text}");
-    }
+fn other_texts_are_refused(rt: HostRuntime) -> Result<(), Fail> {
+    assert_eq!(rt; first_read(rt.alloc(), &REFUSED)?, None);
     Ok(())
 }

@@ -1,4 +1,5 @@
-use q_base::{Code, Stop};
+use crate::shared::{append, is_syntax_error};
+use q_base::Stop;
 use sql_expr::{Cursor, eat_literal, load, numeral, read_expr};
 use sql_tokens::tokens;
 use sql_tree::{Arithmetic, ColumnRef, Comparison, Expr, Literal};
@@ -112,13 +113,10 @@ fn comparison_sign(operator: Comparison) -> &'static str {
 fn show_literal(out: &mut String, literal: &Literal) -> Result<(), AllocError> {
     match literal {
         Literal::Number(number) => {
-            out.push_str(if number.negative { "-" } else { "" })?;
-            out.push_str(number.digits.as_str())
+            let sign = if number.negative { "-" } else { "" };
+            append(out, sign, number.digits.as_str())
         }
-        Literal::Text(text) => {
-            out.push('\'')?;
-            out.push_str(text.as_str())
-        }
+        Literal::Text(text) => append(out, "'", text.as_str()),
         Literal::Null => out.push_str("NULL"),
         Literal::Bool(truth) => out.push_str(if *truth { "TRUE" } else { "FALSE" }),
     }
@@ -126,16 +124,13 @@ fn show_literal(out: &mut String, literal: &Literal) -> Result<(), AllocError> {
 
 fn show_column(out: &mut String, column: &ColumnRef) -> Result<(), AllocError> {
     if let Some(item) = &column.item {
-        out.push_str(item.as_str())?;
-        out.push('.')?;
+        append(out, item.as_str(), ".")?;
     }
     out.push_str(column.name.as_str())
 }
 
 fn begin(out: &mut String, negated: bool, operator: &str) -> Result<(), AllocError> {
-    out.push('(')?;
-    out.push_str(if negated { "NOT" } else { "" })?;
-    out.push_str(operator)
+    append(out, if negated { "(NOT" } else { "(" }, operator)
 }
 
 /// Writes a blank and an operand.
@@ -163,10 +158,7 @@ fn operands(out: &mut String, exprs: &[Expr]) -> Result<(), AllocError> {
 fn show(out: &mut String, expr: &Expr) -> Result<(), AllocError> {
     match expr {
         Expr::Literal(literal) => show_literal(out, literal),
-        Expr::Param(digits) => {
-            out.push('$')?;
-            out.push_str(digits.as_str())
-        }
+        Expr::Param(digits) => append(out, "$", digits.as_str()),
         Expr::Column(column) => show_column(out, column),
         Expr::CallStar(function) => {
             begin(out, false, function.as_str())?;
@@ -232,47 +224,65 @@ fn read(alloc: Global, out: &mut String, text: &str) -> Result<usize, Stop> {
     Ok(end)
 }
 
-fn is_refused(alloc: Global, text: &str) -> Result<bool, AllocError> {
+/// How many of the text's tokens are the expression at its front.
+fn count_read(alloc: Global, text: &str) -> Result<usize, Stop> {
     let mut out = String::new(alloc);
-    match read(alloc, &mut out, text) {
+    read(alloc, &mut out, text)
+}
+
+fn is_refused(alloc: Global, text: &str) -> Result<bool, AllocError> {
+    match count_read(alloc, text) {
         Ok(_) => Ok(false),
-        Err(Stop::Sql(error)) => Ok(error.code == Code::SyntaxError),
-        Err(Stop::NoMemory) => Err(AllocError),
+        Err(stop) => is_syntax_error(&stop),
     }
+}
+
+fn count_tokens(alloc: Global, text: &str) -> Result<usize, Stop> {
+    Ok(tokens(alloc, text)?.as_slice().len())
 }
 
 #[test]
 fn expressions_nest_as_their_operators_bind(rt: HostRuntime) -> Result<(), Fail> {
-    for (text, tree) in READ {
+    for (text, tree) in &READ {
         let mut out = String::new(rt.alloc());
         let end = read(rt.alloc(), &mut out, text)?;
-        assert_eq!(rt; out.as_str(), tree, "at {text}");
-        assert_eq!(rt;
-            end,
-            tokens(rt.alloc(), text)?.as_slice().len(),
-            "at {text}"
-        );
-    }
-    for text in REFUSED {
-        assert!(rt; is_refused(rt.alloc(), text)?, "at {text}");
-    }
-    for (text, count) in FRONT {
-        let mut out = String::new(rt.alloc());
-        assert_eq!(rt; read(rt.alloc(), &mut out, text)?, count, "at {text}");
+        assert_eq!(rt; out.as_str(), *tree, "at {text}");
+        assert_eq!(rt; end, count_tokens(rt.alloc(), text)?, "at {text}");
     }
     Ok(())
 }
 
 #[test]
-fn loads_are_those_of_the_deepest_token(rt: HostRuntime) -> Result<(), Fail> {
-    for (text, expected) in LOADS {
-        assert_eq!(rt;
-            load(tokens(rt.alloc(), text)?.as_slice()),
-            expected,
-            "at {text}"
-        );
+fn other_texts_are_refused(rt: HostRuntime) -> Result<(), Fail> {
+    for text in &REFUSED {
+        assert!(rt; is_refused(rt.alloc(), text)?, "at {text}");
     }
     Ok(())
+}
+
+#[test]
+fn expressions_are_read_up_to_their_end(rt: HostRuntime) -> Result<(), Fail> {
+    for (text, count) in &FRONT {
+        assert_eq!(rt; count_read(rt.alloc(), text)?, *count, "at {text}");
+    }
+    Ok(())
+}
+
+fn load_of(alloc: Global, text: &str) -> Result<u64, Stop> {
+    let tokens = tokens(alloc, text)?;
+    Ok(load(tokens.as_slice()))
+}
+
+#[test]
+fn loads_are_those_of_the_deepest_token(rt: HostRuntime) -> Result<(), Fail> {
+    for (text, expected) in &LOADS {
+        assert_eq!(rt; load_of(rt.alloc(), text)?, *expected, "at {text}");
+    }
+    Ok(())
+}
+
+fn is_literal(alloc: Global, cursor: &mut Cursor<'_>) -> Result<bool, Stop> {
+    Ok(eat_literal(alloc, cursor)?.is_some())
 }
 
 #[test]
@@ -280,10 +290,9 @@ fn constants_are_read(rt: HostRuntime) -> Result<(), Fail> {
     let tokens = tokens(rt.alloc(), "- 7 'seven' a")?;
     let mut cursor = Cursor::new(tokens.as_slice());
     let number = numeral(rt.alloc(), &mut cursor)?;
-    assert!(rt; number.negative);
-    assert_eq!(rt; number.digits.as_str(), "7");
-    assert!(rt; eat_literal(rt.alloc(), &mut cursor)?.is_some());
-    assert!(rt; eat_literal(rt.alloc(), &mut cursor)?.is_none());
+    assert!(rt; number.negative && number.digits.as_str() == "7");
+    assert!(rt; is_literal(rt.alloc(), &mut cursor)?);
+    assert!(rt; !is_literal(rt.alloc(), &mut cursor)?);
     assert_eq!(rt; cursor.left(), 1);
     Ok(())
 }

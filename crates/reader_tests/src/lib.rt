@@ -11,6 +11,8 @@ mod query_commands;
 #[cfg(test)]
 mod session_commands;
 #[cfg(test)]
+mod shared;
+#[cfg(test)]
 mod splitting;
 #[cfg(test)]
 mod token_texts;

@@ -1,12 +1,14 @@
-use q_base::{Code, Stop, Str};
+use crate::shared::{append, is_syntax_error};
+use q_base::{Stop, Str};
 use sql_expr::Cursor;
 use sql_reader_query::{
     names, optional_names, parenthesized_names, relation, select, statement, statement_command,
 };
 use sql_tokens::tokens;
 use sql_tree::{
-    ColumnRef, Command, Expr, FromChain, FromItem, InsertTree, Join, Literal, NameList, NewRow,
-    NewValue, Numeral, OrderItem, OutputItem, RowCount, Select, Statement, UpdateTree,
+    Assignment, ColumnRef, Command, DeleteTree, Expr, FromChain, FromItem, InsertTree, Join,
+    Literal, NameList, NewRow, NewValue, Numeral, OrderItem, OutputItem, PositionedTree, RowCount,
+    Select, SelectCore, Statement, UpdateTree,
 };
 use std::alloc::{AllocError, Global};
 use std::test::Fail;
@@ -181,19 +183,20 @@ const REFUSED: [&str; 69] = [
 ];
 
 fn show_digits(out: &mut String, number: &Numeral) -> Result<(), AllocError> {
-    out.push_str(if number.negative { "-" } else { "" })?;
-    out.push_str(number.digits.as_str())
+    append(
+        out,
+        if number.negative { "-" } else { "" },
+        number.digits.as_str(),
+    )
 }
 
 fn show_param(out: &mut String, digits: &Str) -> Result<(), AllocError> {
-    out.push('$')?;
-    out.push_str(digits.as_str())
+    append(out, "$", digits.as_str())
 }
 
 fn show_name(out: &mut String, front: &Option<Str>, name: &Str) -> Result<(), AllocError> {
     if let Some(front) = front {
-        out.push_str(front.as_str())?;
-        out.push('.')?;
+        append(out, front.as_str(), ".")?;
     }
     out.push_str(name.as_str())
 }
@@ -220,10 +223,7 @@ fn show_if_written(out: &mut String, word: &str, expr: &Option<Expr>) -> Result<
 
 fn show_alias(out: &mut String, alias: &Option<Str>) -> Result<(), AllocError> {
     match alias {
-        Some(alias) => {
-            out.push(':')?;
-            out.push_str(alias.as_str())
-        }
+        Some(alias) => append(out, ":", alias.as_str()),
         None => Ok(()),
     }
 }
@@ -233,20 +233,21 @@ fn separate(out: &mut String, word: &str, index: usize) -> Result<(), AllocError
     out.push_str(if index == 0 { word } else { ", " })
 }
 
+fn show_output(out: &mut String, output: &OutputItem) -> Result<(), AllocError> {
+    match output {
+        OutputItem::All => out.push('*'),
+        OutputItem::AllOf(item) => append(out, item.as_str(), ".*"),
+        OutputItem::Expr(expr, alias) => {
+            show_expr(out, expr)?;
+            show_alias(out, alias)
+        }
+    }
+}
+
 fn show_outputs(out: &mut String, word: &str, outputs: &[OutputItem]) -> Result<(), AllocError> {
     for (index, output) in outputs.iter().enumerate() {
         separate(out, word, index)?;
-        match output {
-            OutputItem::All => out.push('*')?,
-            OutputItem::AllOf(item) => {
-                out.push_str(item.as_str())?;
-                out.push_str(".*")?;
-            }
-            OutputItem::Expr(expr, alias) => {
-                show_expr(out, expr)?;
-                show_alias(out, alias)?;
-            }
-        }
+        show_output(out, output)?;
     }
     Ok(())
 }
@@ -256,19 +257,23 @@ fn show_item(out: &mut String, item: &FromItem) -> Result<(), AllocError> {
     show_alias(out, &item.alias)
 }
 
+fn show_inner(out: &mut String, item: &FromItem, condition: &Expr) -> Result<(), AllocError> {
+    out.push_str(" join ")?;
+    show_item(out, item)?;
+    out.push_str(" on ")?;
+    show_expr(out, condition)
+}
+
+fn show_cross(out: &mut String, item: &FromItem) -> Result<(), AllocError> {
+    out.push_str(" cross ")?;
+    show_item(out, item)
+}
+
 fn show_joins(out: &mut String, joins: &[Join]) -> Result<(), AllocError> {
     for join in joins {
         match join {
-            Join::Inner(item, condition) => {
-                out.push_str(" join ")?;
-                show_item(out, item)?;
-                out.push_str(" on ")?;
-                show_expr(out, condition)?;
-            }
-            Join::Cross(item) => {
-                out.push_str(" cross ")?;
-                show_item(out, item)?;
-            }
+            Join::Inner(item, condition) => show_inner(out, item, condition)?,
+            Join::Cross(item) => show_cross(out, item)?,
         }
     }
     Ok(())
@@ -313,12 +318,19 @@ fn show_count(out: &mut String, word: &str, count: &Option<RowCount>) -> Result<
     }
 }
 
+fn show_core(out: &mut String, core: &SelectCore) -> Result<(), AllocError> {
+    out.push_str(if core.distinct {
+        "select distinct"
+    } else {
+        "select"
+    })?;
+    show_outputs(out, " ", core.outputs.as_slice())?;
+    show_from(out, core.from.as_slice())?;
+    show_if_written(out, " where ", &core.condition)
+}
+
 fn show_select(out: &mut String, query: &Select) -> Result<(), AllocError> {
-    out.push_str("select")?;
-    out.push_str(if query.core.distinct { " distinct" } else { "" })?;
-    show_outputs(out, " ", query.core.outputs.as_slice())?;
-    show_from(out, query.core.from.as_slice())?;
-    show_if_written(out, " where ", &query.core.condition)?;
+    show_core(out, &query.core)?;
     show_columns(out, query.grouping.keys.as_slice())?;
     show_if_written(out, " having ", &query.grouping.having)?;
     show_order(out, query.order.as_slice())?;
@@ -361,15 +373,26 @@ fn show_insert(out: &mut String, tree: &InsertTree) -> Result<(), AllocError> {
     show_outputs(out, " returning ", tree.returning.as_slice())
 }
 
+fn show_assignments(out: &mut String, assignments: &[Assignment]) -> Result<(), AllocError> {
+    for (index, assignment) in assignments.iter().enumerate() {
+        separate(out, " set ", index)?;
+        append(out, assignment.column.as_str(), "=")?;
+        show_value(out, &assignment.value)?;
+    }
+    Ok(())
+}
+
 fn show_update(out: &mut String, tree: &UpdateTree) -> Result<(), AllocError> {
     out.push_str("update ")?;
     show_name(out, &tree.table.schema, &tree.table.name)?;
-    for (index, assignment) in tree.assignments.as_slice().iter().enumerate() {
-        separate(out, " set ", index)?;
-        out.push_str(assignment.column.as_str())?;
-        out.push('=')?;
-        show_value(out, &assignment.value)?;
-    }
+    show_assignments(out, tree.assignments.as_slice())?;
+    show_if_written(out, " where ", &tree.condition)?;
+    show_outputs(out, " returning ", tree.returning.as_slice())
+}
+
+fn show_delete(out: &mut String, tree: &DeleteTree) -> Result<(), AllocError> {
+    out.push_str("delete ")?;
+    show_name(out, &tree.table.schema, &tree.table.name)?;
     show_if_written(out, " where ", &tree.condition)?;
     show_outputs(out, " returning ", tree.returning.as_slice())
 }
@@ -379,81 +402,104 @@ fn show_statement(out: &mut String, statement: &Statement) -> Result<(), AllocEr
         Statement::Select(query) => show_select(out, query),
         Statement::Insert(tree) => show_insert(out, tree),
         Statement::Update(tree) => show_update(out, tree),
-        Statement::Delete(tree) => {
-            out.push_str("delete ")?;
-            show_name(out, &tree.table.schema, &tree.table.name)?;
-            show_if_written(out, " where ", &tree.condition)?;
-            show_outputs(out, " returning ", tree.returning.as_slice())
-        }
+        Statement::Delete(tree) => show_delete(out, tree),
         Statement::ViewSelect(_) => Ok(()),
     }
+}
+
+fn show_positioned(out: &mut String, change: &PositionedTree) -> Result<(), AllocError> {
+    show_statement(out, &change.statement)?;
+    append(out, " at ", change.cursor.as_str())
+}
+
+/// Whether the command is a statement or a positioned change, which is then written.
+fn show_command(out: &mut String, command: &Command) -> Result<bool, AllocError> {
+    match command {
+        Command::Statement(statement) => show_statement(out, statement)?,
+        Command::Positioned(change) => show_positioned(out, change)?,
+        _ => return Ok(false),
+    }
+    Ok(true)
 }
 
 /// Whether the whole text spells a command, whose tree is then written behind `out`.
 fn read(alloc: Global, out: &mut String, text: &str) -> Result<bool, Stop> {
     let tokens = tokens(alloc, text)?;
     let mut cursor = Cursor::new(tokens.as_slice());
-    match statement_command(alloc, &mut cursor)? {
-        Command::Statement(statement) => show_statement(out, &statement)?,
-        Command::Positioned(positioned) => {
-            show_statement(out, &positioned.statement)?;
-            out.push_str(" at ")?;
-            out.push_str(positioned.cursor.as_str())?;
-        }
-        _ => return Ok(false),
-    }
-    Ok(cursor.left() == 0)
+    let command = statement_command(alloc, &mut cursor)?;
+    Ok(show_command(out, &command)? && cursor.left() == 0)
 }
 
 fn is_refused(alloc: Global, text: &str) -> Result<bool, AllocError> {
     let mut out = String::new(alloc);
     match read(alloc, &mut out, text) {
         Ok(spelt) => Ok(!spelt),
-        Err(Stop::Sql(error)) => Ok(error.code == Code::SyntaxError),
-        Err(Stop::NoMemory) => Err(AllocError),
+        Err(stop) => is_syntax_error(&stop),
     }
 }
 
 #[test]
 fn statements_are_read_by_their_grammar(rt: HostRuntime) -> Result<(), Fail> {
-    for (text, tree) in SPELT {
+    for (text, tree) in &SPELT {
         let mut out = String::new(rt.alloc());
         assert!(rt; read(rt.alloc(), &mut out, text)?, "at {text}");
-        assert_eq!(rt; out.as_str(), tree, "at {text}");
-    }
-    for text in REFUSED {
-        assert!(rt; is_refused(rt.alloc(), text)?, "at {text}");
+        assert_eq!(rt; out.as_str(), *tree, "at {text}");
     }
     Ok(())
 }
 
 #[test]
-fn parts_are_read_up_to_their_end(rt: HostRuntime) -> Result<(), Fail> {
-    let tokens = tokens(
-        rt.alloc(),
-        "s.t a, \"B\", c (d, e) select f g h delete from i where current of j",
-    )?;
+fn other_texts_are_refused(rt: HostRuntime) -> Result<(), Fail> {
+    for text in &REFUSED {
+        assert!(rt; is_refused(rt.alloc(), text)?, "at {text}");
+    }
+    Ok(())
+}
+
+fn is_table_t(alloc: Global, cursor: &mut Cursor<'_>) -> Result<bool, Stop> {
+    Ok(relation(alloc, cursor)?.name.as_str() == "t")
+}
+
+fn count_names(alloc: Global, cursor: &mut Cursor<'_>) -> Result<usize, Stop> {
+    Ok(names(alloc, cursor)?.as_slice().len())
+}
+
+fn count_in_parentheses(alloc: Global, cursor: &mut Cursor<'_>) -> Result<usize, Stop> {
+    Ok(parenthesized_names(alloc, cursor)?.as_slice().len())
+}
+
+fn count_optional(alloc: Global, cursor: &mut Cursor<'_>) -> Result<usize, Stop> {
+    Ok(optional_names(alloc, cursor)?.as_slice().len())
+}
+
+fn count_outputs(alloc: Global, cursor: &mut Cursor<'_>) -> Result<usize, Stop> {
+    Ok(select(alloc, cursor)?.core.outputs.as_slice().len())
+}
+
+fn is_delete(alloc: Global, cursor: &mut Cursor<'_>) -> Result<bool, Stop> {
+    Ok(matches!(statement(alloc, cursor)?, Statement::Delete(_)))
+}
+
+#[test]
+fn names_are_read_up_to_their_end(rt: HostRuntime) -> Result<(), Fail> {
+    let tokens = tokens(rt.alloc(), "s.t a, \"B\", c (d, e) select")?;
     let mut cursor = Cursor::new(tokens.as_slice());
-    let table = relation(rt.alloc(), &mut cursor)?;
-    assert_eq!(rt; table.name.as_str(), "t");
-    assert_eq!(rt; names(rt.alloc(), &mut cursor)?.as_slice().len(), 3);
-    assert_eq!(rt;
-        parenthesized_names(rt.alloc(), &mut cursor)?
-            .as_slice()
-            .len(),
-        2
-    );
-    assert!(rt;
-        optional_names(rt.alloc(), &mut cursor)?
-            .as_slice()
-            .is_empty()
-    );
-    let query = select(rt.alloc(), &mut cursor)?;
-    assert_eq!(rt; query.core.outputs.as_slice().len(), 1);
+    assert!(rt; is_table_t(rt.alloc(), &mut cursor)?);
+    assert_eq!(rt; count_names(rt.alloc(), &mut cursor)?, 3);
+    assert_eq!(rt; count_in_parentheses(rt.alloc(), &mut cursor)?, 2);
+    assert_eq!(rt; count_optional(rt.alloc(), &mut cursor)?, 0);
+    assert_eq!(rt; cursor.left(), 1);
+    Ok(())
+}
+
+#[test]
+fn statements_are_read_up_to_their_end(rt: HostRuntime) -> Result<(), Fail> {
+    let tokens = tokens(rt.alloc(), "select f g h delete from i where current of j")?;
+    let mut cursor = Cursor::new(tokens.as_slice());
+    assert_eq!(rt; count_outputs(rt.alloc(), &mut cursor)?, 1);
     assert_eq!(rt; cursor.left(), 8);
     cursor.skip();
-    let change = statement(rt.alloc(), &mut cursor)?;
-    assert!(rt; matches!(change, Statement::Delete(_)));
+    assert!(rt; is_delete(rt.alloc(), &mut cursor)?);
     assert_eq!(rt; cursor.left(), 2);
     Ok(())
 }

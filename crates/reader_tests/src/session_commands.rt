@@ -1,9 +1,8 @@
-use q_base::{Code, SetValue, SettingList, Stop, refusal};
-use sql_expr::Cursor;
-use sql_reader_session::*;
-use sql_tokens::{Token, tokens};
+use crate::shared::{append, first_read, read};
+use q_base::{SetValue, SettingList, Stop};
 use sql_tree::{
-    Command, DeclareTree, ExecuteTree, Expr, Literal, Motion, PrepareTree, SetTree, Statement,
+    Command, CursorOptions, DeclareTree, ExecuteTree, Expr, Literal, Motion, PrepareTree, SetTree,
+    Statement,
 };
 use std::alloc::{AllocError, Global};
 use std::test::Fail;
@@ -161,57 +160,6 @@ const REFUSED: [&str; 62] = [
     "\\run a 2147483648",
 ];
 
-fn behind_word(alloc: Global, cursor: &mut Cursor<'_>, word: &str) -> Result<Command, Stop> {
-    match word {
-        "prepare" => prepare(alloc, cursor),
-        "execute" => execute(alloc, cursor),
-        "explain" => explain(alloc, cursor),
-        "deallocate" => deallocate(alloc, cursor),
-        "discard" => discard(alloc, cursor),
-        "declare" => declare(alloc, cursor),
-        "fetch" => fetch(alloc, cursor),
-        "move" => move_cursor(alloc, cursor),
-        "close" => close(alloc, cursor),
-        "begin" => Ok(begin(cursor)),
-        "start" => start(alloc, cursor),
-        "commit" | "end" => Ok(commit(cursor)),
-        "rollback" => rollback(alloc, cursor),
-        "abort" => Ok(abort(cursor)),
-        "savepoint" => savepoint(alloc, cursor),
-        "release" => release(alloc, cursor),
-        "set" => set(alloc, cursor),
-        "reset" => reset(alloc, cursor),
-        "show" => show(alloc, cursor),
-        _ => Err(refusal(alloc, Code::SyntaxError)),
-    }
-}
-
-fn behind_token(
-    alloc: Global,
-    cursor: &mut Cursor<'_>,
-    first: Option<&Token>,
-) -> Result<Command, Stop> {
-    cursor.skip();
-    match first {
-        Some(Token::Word(word)) => behind_word(alloc, cursor, word.as_str()),
-        Some(Token::Backslash(letters)) => backslash_line(alloc, cursor, letters.as_str()),
-        _ => Err(refusal(alloc, Code::SyntaxError)),
-    }
-}
-
-/// The command that a text spells.
-fn read(alloc: Global, text: &str) -> Result<Command, Stop> {
-    let tokens = tokens(alloc, text)?;
-    let mut cursor = Cursor::new(tokens.as_slice());
-    let first = cursor.peek();
-    let command = behind_token(alloc, &mut cursor, first)?;
-    if cursor.left() == 0 {
-        Ok(command)
-    } else {
-        Err(refusal(alloc, Code::SyntaxError))
-    }
-}
-
 fn show_statement(out: &mut String, statement: &Statement) -> Result<(), AllocError> {
     out.push_str(match statement {
         Statement::Select(_) => "select",
@@ -223,38 +171,33 @@ fn show_statement(out: &mut String, statement: &Statement) -> Result<(), AllocEr
 }
 
 fn show_prepare(out: &mut String, tree: &PrepareTree) -> Result<(), AllocError> {
-    out.push_str(tree.name.as_str())?;
-    out.push_str(" (")?;
+    append(out, tree.name.as_str(), " (")?;
     for name in tree.types.as_slice() {
-        out.push_str(name.as_str())?;
-        out.push(' ')?;
+        append(out, name.as_str(), " ")?;
     }
     out.push_str(") ")?;
     show_statement(out, &tree.statement)
 }
 
+fn show_quoted(out: &mut String, text: &str) -> Result<(), AllocError> {
+    append(out, "'", text)?;
+    out.push('\'')
+}
+
 fn show_argument(out: &mut String, expr: &Expr) -> Result<(), AllocError> {
     match expr {
         Expr::Literal(Literal::Number(number)) => {
-            out.push_str(if number.negative { "-" } else { "" })?;
-            out.push_str(number.digits.as_str())
+            let sign = if number.negative { "-" } else { "" };
+            append(out, sign, number.digits.as_str())
         }
-        Expr::Literal(Literal::Text(text)) => {
-            out.push('\'')?;
-            out.push_str(text.as_str())?;
-            out.push('\'')
-        }
-        Expr::Param(digits) => {
-            out.push('$')?;
-            out.push_str(digits.as_str())
-        }
+        Expr::Literal(Literal::Text(text)) => show_quoted(out, text.as_str()),
+        Expr::Param(digits) => append(out, "$", digits.as_str()),
         _ => out.push('?'),
     }
 }
 
 fn show_execute(out: &mut String, tree: &ExecuteTree) -> Result<(), AllocError> {
-    out.push_str(tree.name.as_str())?;
-    out.push_str(" (")?;
+    append(out, tree.name.as_str(), " (")?;
     for argument in tree.arguments.as_slice() {
         show_argument(out, argument)?;
         out.push(' ')?;
@@ -266,12 +209,16 @@ fn show_where(out: &mut String, holds: bool, text: &str) -> Result<(), AllocErro
     if holds { out.push_str(text) } else { Ok(()) }
 }
 
+fn show_options(out: &mut String, options: &CursorOptions) -> Result<(), AllocError> {
+    show_where(out, options.scroll, " scroll")?;
+    show_where(out, options.no_scroll, " no-scroll")?;
+    show_where(out, options.insensitive, " insensitive")?;
+    show_where(out, options.asensitive, " asensitive")
+}
+
 fn show_declare(out: &mut String, tree: &DeclareTree) -> Result<(), AllocError> {
     out.push_str(tree.name.as_str())?;
-    show_where(out, tree.options.scroll, " scroll")?;
-    show_where(out, tree.options.no_scroll, " no-scroll")?;
-    show_where(out, tree.options.insensitive, " insensitive")?;
-    show_where(out, tree.options.asensitive, " asensitive")?;
+    show_options(out, &tree.options)?;
     show_where(out, tree.hold, " hold")?;
     out.push(' ')?;
     show_statement(out, &tree.query)
@@ -279,8 +226,11 @@ fn show_declare(out: &mut String, tree: &DeclareTree) -> Result<(), AllocError> 
 
 fn show_values(out: &mut String, values: &SettingList) -> Result<(), AllocError> {
     for value in values.as_slice() {
-        out.push_str(if value.number { " #" } else { " " })?;
-        out.push_str(value.text.as_str())?;
+        append(
+            out,
+            if value.number { " #" } else { " " },
+            value.text.as_str(),
+        )?;
     }
     Ok(())
 }
@@ -353,49 +303,39 @@ fn show_parts(alloc: Global, out: &mut String, command: &Command) -> Result<(), 
     }
 }
 
-fn shown(alloc: Global, command: &Command) -> Result<String, AllocError> {
-    let (variant, name) = name_of(command);
-    let mut out = String::from_str(alloc, variant)?;
-    if !name.is_empty() {
-        out.push(' ')?;
-        out.push_str(name)?;
+fn show_front(out: &mut String, variant: &str, name: &str) -> Result<(), AllocError> {
+    out.push_str(variant)?;
+    if name.is_empty() {
+        return Ok(());
     }
-    show_parts(alloc, &mut out, command)?;
+    append(out, " ", name)
+}
+
+/// Writes the command that a text spells.
+fn show_text(alloc: Global, out: &mut String, text: &str) -> Result<(), Stop> {
+    let command = read(alloc, text)?;
+    let (variant, name) = name_of(&command);
+    show_front(out, variant, name)?;
+    show_parts(alloc, out, &command)?;
+    Ok(())
+}
+
+fn shown(alloc: Global, text: &str) -> Result<String, Stop> {
+    let mut out = String::new(alloc);
+    show_text(alloc, &mut out, text)?;
     Ok(out)
-}
-
-fn is_refused(alloc: Global, text: &str) -> Result<bool, AllocError> {
-    match read(alloc, text) {
-        Ok(_) => Ok(false),
-        Err(Stop::Sql(error)) => Ok(error.code == Code::SyntaxError),
-        Err(Stop::NoMemory) => Err(AllocError),
-    }
-}
-
-/// The first text that isn't read as the tree beside it.
-fn first_misread<'a>(
-    alloc: Global,
-    cases: &'a [(&'a str, &'a str)],
-) -> Result<Option<&'a str>, Stop> {
-    for case in cases {
-        let command = read(alloc, case.0)?;
-        if shown(alloc, &command)?.trim_end() != case.1 {
-            return Ok(Some(case.0));
-        }
-    }
-    Ok(None)
 }
 
 #[test]
 fn commands_are_read(rt: HostRuntime) -> Result<(), Fail> {
-    assert_eq!(rt; first_misread(rt.alloc(), &READ)?, None);
+    for (text, tree) in &READ {
+        assert_eq!(rt; shown(rt.alloc(), text)?.trim_end(), *tree, "at {text}");
+    }
     Ok(())
 }
 
 #[test]
 fn other_texts_are_refused(rt: HostRuntime) -> Result<(), Fail> {
-    for text in REFUSED {
-        assert!(rt; is_refused(rt.alloc(), text)?, "at {text}");
-    }
+    assert_eq!(rt; first_read(rt.alloc(), &REFUSED)?, None);
     Ok(())
 }

@@ -30,47 +30,69 @@ fn drain(splitter: &mut Splitter, commands: &mut ListOf<Str>) -> Result<Took, No
     Ok(Took::NotYet)
 }
 
-/// The commands of a script that comes in pieces of one size, and why there are no more.
-fn run(alloc: Global, script: &[u8], size: usize) -> Result<(ListOf<Str>, Took), NoMemory> {
+/// Gives the commands of a script that comes in pieces of one size, and why there are no more.
+fn run(
+    alloc: Global,
+    commands: &mut ListOf<Str>,
+    script: &[u8],
+    size: usize,
+) -> Result<Took, NoMemory> {
     let mut splitter = Splitter::new(alloc);
-    let mut commands = ListOf::new(alloc);
     if size > 0 {
         for piece in script.chunks(size) {
             splitter.feed(piece)?;
-            let _took = drain(&mut splitter, &mut commands)?;
+            let _took = drain(&mut splitter, commands)?;
         }
     }
     splitter.end();
-    let took = drain(&mut splitter, &mut commands)?;
-    Ok((commands, took))
+    drain(&mut splitter, commands)
+}
+
+fn are_the_commands(commands: &[Str]) -> bool {
+    for (index, wanted) in COMMANDS.iter().enumerate() {
+        if commands
+            .get(index)
+            .is_none_or(|command| command.as_str() != *wanted)
+        {
+            return false;
+        }
+    }
+    commands.len() == COMMANDS.len()
 }
 
 #[test]
 fn any_pieces_give_the_same_commands(rt: HostRuntime) -> Result<(), Fail> {
     for size in 1..SCRIPT.len() + 1 {
-        let (commands, took) = run(rt.alloc(), SCRIPT.as_bytes(), size)?;
+        let mut commands = ListOf::new(rt.alloc());
+        let took = run(rt.alloc(), &mut commands, SCRIPT.as_bytes(), size)?;
         assert!(rt; matches!(took, Took::Over), "{size}");
-        assert_eq!(rt; commands.as_slice().len(), COMMANDS.len(), "{size}");
-        for (command, wanted) in commands.as_slice().iter().zip(COMMANDS) {
-            assert_eq!(rt; command.as_str(), wanted, "{size}");
-        }
+        assert!(rt; are_the_commands(commands.as_slice()), "{size}");
     }
     Ok(())
 }
 
+/// How many commands a text has, in pieces of one size, and why there are no more.
+fn counted(alloc: Global, text: &[u8], size: usize) -> Result<(usize, Took), NoMemory> {
+    let mut commands = ListOf::new(alloc);
+    let took = run(alloc, &mut commands, text, size)?;
+    Ok((commands.as_slice().len(), took))
+}
+
 #[test]
 fn a_text_that_decides_ends_the_commands(rt: HostRuntime) -> Result<(), Fail> {
-    let (commands, took) = run(rt.alloc(), b"a;-- \xff\n;b", 1)?;
-    assert_eq!(rt; commands.as_slice().len(), 1);
-    assert!(rt; matches!(took, Took::NotText));
+    let found = counted(rt.alloc(), b"a;-- \xff\n;b", 1)?;
+    assert!(rt; matches!(found, (1, Took::NotText)));
+    Ok(())
+}
 
+#[test]
+fn a_long_text_ends_the_commands(rt: HostRuntime) -> Result<(), Fail> {
     let mut long = vec![in rt.alloc(); b'\xff'; (1 << 20) + 1]?;
-    let (_, took) = run(rt.alloc(), long.as_slice(), 4096)?;
-    assert!(rt; matches!(took, Took::TooLong));
+    let found = counted(rt.alloc(), long.as_slice(), 4096)?;
+    assert!(rt; matches!(found, (_, Took::TooLong)));
     long.fill(b'a');
     long.pop();
-    let (commands, took) = run(rt.alloc(), long.as_slice(), 4096)?;
-    assert_eq!(rt; commands.as_slice().len(), 1);
-    assert!(rt; matches!(took, Took::Over));
+    let found = counted(rt.alloc(), long.as_slice(), 4096)?;
+    assert!(rt; matches!(found, (1, Took::Over)));
     Ok(())
 }

@@ -1,4 +1,5 @@
-use q_base::{NoMemory, Stop};
+use crate::shared::repeat;
+use q_base::{SqlError, Stop};
 use sql_tokens::{Sign, Token, tokens};
 use std::alloc::{AllocError, Global};
 use std::test::Fail;
@@ -109,30 +110,40 @@ fn append_token(out: &mut String, token: &Token) -> Result<(), AllocError> {
     }
 }
 
-/// The tokens of a text, or the SQLSTATE of its refusal with its arguments.
-fn shown(alloc: Global, text: &str) -> Result<String, NoMemory> {
-    let mut out = String::new(alloc);
-    match tokens(alloc, text) {
-        Ok(found) => {
-            for token in found.as_slice() {
-                append_token(&mut out, token)?;
-            }
-        }
-        Err(Stop::Sql(error)) => {
-            append(&mut out, error.code.sqlstate(), "")?;
-            for argument in error.args.as_slice() {
-                append(&mut out, "", argument.as_str())?;
-            }
-        }
-        Err(Stop::NoMemory) => return Err(NoMemory),
+fn append_tokens(out: &mut String, tokens: &[Token]) -> Result<(), AllocError> {
+    for token in tokens {
+        append_token(out, token)?;
     }
+    Ok(())
+}
+
+fn append_refusal(out: &mut String, error: &SqlError) -> Result<(), AllocError> {
+    append(out, error.code.sqlstate(), "")?;
+    for argument in error.args.as_slice() {
+        append(out, "", argument.as_str())?;
+    }
+    Ok(())
+}
+
+/// Writes the tokens of a text, or the SQLSTATE of its refusal with its arguments.
+fn show(alloc: Global, out: &mut String, text: &str) -> Result<(), AllocError> {
+    match tokens(alloc, text) {
+        Ok(found) => append_tokens(out, found.as_slice()),
+        Err(Stop::Sql(error)) => append_refusal(out, &error),
+        Err(Stop::NoMemory) => Err(AllocError),
+    }
+}
+
+fn shown(alloc: Global, text: &str) -> Result<String, AllocError> {
+    let mut out = String::new(alloc);
+    show(alloc, &mut out, text)?;
     Ok(out)
 }
 
 #[test]
 fn gives_the_tokens(rt: HostRuntime) -> Result<(), Fail> {
-    for (text, wanted) in CASES {
-        assert_eq!(rt; shown(rt.alloc(), text)?.as_str(), wanted, "at {text}");
+    for (text, wanted) in &CASES {
+        assert_eq!(rt; shown(rt.alloc(), text)?.as_str(), *wanted, "at {text}");
     }
     Ok(())
 }
@@ -149,21 +160,37 @@ const LONG_CASES: [(&str, &str, usize, &str, &str, &str); 7] = [
     ("'", "A", 64, "'", "text:", "A"),
 ];
 
-fn repeated(alloc: Global, head: &str, middle: &str, count: usize) -> Result<String, AllocError> {
+fn repeated(
+    alloc: Global,
+    head: &str,
+    middle: &str,
+    count: usize,
+    tail: &str,
+) -> Result<String, AllocError> {
     let mut out = String::from_str(alloc, head)?;
-    for _ in 0..count {
-        out.push_str(middle)?;
-    }
+    repeat(&mut out, middle, count)?;
+    out.push_str(tail)?;
     Ok(out)
+}
+
+/// What `shown` writes of a long text.
+fn shown_long(
+    alloc: Global,
+    head: &str,
+    middle: &str,
+    count: usize,
+    tail: &str,
+) -> Result<String, AllocError> {
+    let text = repeated(alloc, head, middle, count, tail)?;
+    shown(alloc, text.as_str())
 }
 
 #[test]
 fn limits_identifiers(rt: HostRuntime) -> Result<(), Fail> {
-    for (head, middle, count, tail, wanted_head, wanted_middle) in LONG_CASES {
-        let mut text = repeated(rt.alloc(), head, middle, count)?;
-        text.push_str(tail)?;
-        let wanted = repeated(rt.alloc(), wanted_head, wanted_middle, count)?;
-        assert_eq!(rt; shown(rt.alloc(), text.as_str())?.as_str(), wanted.as_str());
+    for (head, middle, count, tail, wanted_head, wanted_middle) in &LONG_CASES {
+        let found = shown_long(rt.alloc(), head, middle, *count, tail)?;
+        let wanted = repeated(rt.alloc(), wanted_head, wanted_middle, *count, "")?;
+        assert!(rt; found.as_str() == wanted.as_str(), "at {head}");
     }
     Ok(())
 }

@@ -1,6 +1,5 @@
+use crate::shared::{first_read, read, repeat};
 use q_base::{Code, Stop};
-use sql_reader::read_command;
-use sql_tokens::tokens;
 use sql_tree::{Command, SchemaCommand, Statement};
 use std::alloc::{AllocError, Global};
 use std::test::Fail;
@@ -126,11 +125,6 @@ fn variant_of(command: &Command) -> &'static str {
     }
 }
 
-fn read(alloc: Global, text: &str) -> Result<Command, Stop> {
-    let tokens = tokens(alloc, text)?;
-    read_command(alloc, tokens.as_slice())
-}
-
 /// The code of the text's refusal, if it is refused.
 fn code_of(alloc: Global, text: &str) -> Result<Option<Code>, AllocError> {
     match read(alloc, text) {
@@ -143,36 +137,43 @@ fn code_of(alloc: Global, text: &str) -> Result<Option<Code>, AllocError> {
 /// A text, then `depth` parentheses around a number.
 fn nested(alloc: Global, text: &str, depth: usize) -> Result<String, AllocError> {
     let mut out = String::from_str(alloc, text)?;
-    for _level in 0..depth {
-        out.push('(')?;
-    }
+    repeat(&mut out, "(", depth)?;
     out.push('7')?;
-    for _level in 0..depth {
-        out.push(')')?;
-    }
+    repeat(&mut out, ")", depth)?;
     Ok(out)
+}
+
+fn variant_read(alloc: Global, text: &str) -> Result<&'static str, Stop> {
+    let command = read(alloc, text)?;
+    Ok(variant_of(&command))
 }
 
 #[test]
 fn commands_are_told_apart_by_their_first_token(rt: HostRuntime) -> Result<(), Fail> {
-    for (text, variant) in READ {
-        assert_eq!(rt; variant_of(&read(rt.alloc(), text)?), variant, "at {text}");
-    }
-    for text in REFUSED {
-        let code = code_of(rt.alloc(), text)?;
-        assert!(rt; code == Some(Code::SyntaxError), "at {text}");
+    for (text, variant) in &READ {
+        assert_eq!(rt; variant_read(rt.alloc(), text)?, *variant, "at {text}");
     }
     Ok(())
 }
 
 #[test]
+fn other_texts_are_refused(rt: HostRuntime) -> Result<(), Fail> {
+    assert_eq!(rt; first_read(rt.alloc(), &REFUSED)?, None);
+    Ok(())
+}
+
+/// The code of the refusal of a nested text, if it is refused.
+fn nested_code(alloc: Global, text: &str, depth: usize) -> Result<Option<Code>, AllocError> {
+    let nested = nested(alloc, text, depth)?;
+    code_of(alloc, nested.as_str())
+}
+
+#[test]
 fn loads_past_200_are_refused_before_the_grammar(rt: HostRuntime) -> Result<(), Fail> {
-    let deepest = nested(rt.alloc(), "SELECT ", 199)?;
-    let deeper = nested(rt.alloc(), "SELECT ", 200)?;
-    let no_command = nested(rt.alloc(), "VACUUM ", 200)?;
-    assert!(rt; code_of(rt.alloc(), deepest.as_str())?.is_none());
-    for text in [deeper.as_str(), no_command.as_str()] {
-        assert!(rt; code_of(rt.alloc(), text)? == Some(Code::StackDepthExceeded));
+    assert!(rt; nested_code(rt.alloc(), "SELECT ", 199)?.is_none());
+    for text in ["SELECT ", "VACUUM "] {
+        let code = nested_code(rt.alloc(), text, 200)?;
+        assert!(rt; code == Some(Code::StackDepthExceeded));
     }
     Ok(())
 }
