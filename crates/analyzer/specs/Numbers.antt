@@ -1,6 +1,7 @@
 -- Numbers as they are written.
-use Rattle.std.specs.Prelude.{ℕ, ℤ, Bool, Option, None, Some, Result, Ok, Err, List, ◌++◌, codes, if◌then◌else◌}
+use Rattle.std.specs.Prelude.{ℕ, ◌==◌, ℤ, Bool, Option, None, Some, Result, Ok, Err, List, ◌++◌, drop, codes, if◌then◌else◌}
 use Rattle.std.specs.Fmt.{signed_decimal}
+use Rattle.std.specs.List.{prefix_len}
 use Rattle.q_base.specs.declared.code.Code.TheVariants.{BigintOutOfRange}
 use Rattle.q_base.specs.declared.errors.SqlError.{SqlError}
 use Rattle.q_value.specs.declared.value.SqlType.TheVariants as kind
@@ -31,13 +32,17 @@ written negative digits = if negative then with_minus digits else digits
 abbrev pub number_of : Bool → List ℕ → Option ℤ
 number_of negative digits = bigint_of (written negative digits)
 
+-- the digits behind the zeros that stand first
+abbrev pub without_zeros : List ℕ → List ℕ
+without_zeros digits = drop (prefix_len (λ digit. digit == 48) digits) digits
+
 abbrev pub shown_as : Option ℤ → List ℕ → List ℕ
 shown_as (Some number) text = signed_decimal number
 shown_as None text = text
 
 -- as refusals show a number
 unfoldable pub shown_number : Bool → List ℕ → List ℕ
-shown_number negative digits = shown_as (number_of negative digits) (written negative digits)
+shown_number negative digits = shown_as (number_of negative digits) (written negative (without_zeros digits))
 
 abbrev pub integer_or_bigint : ℤ → Option Value → Target
 integer_or_bigint number (Some narrow) = target.Const kind.Int4 narrow

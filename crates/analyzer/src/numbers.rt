@@ -43,15 +43,26 @@ fn with_minus(alloc: Global, digits: &str) -> Result<Str, NoMemory>
     Ok(Str::new(text))
 }
 
-/// A number as refusals show it: without zeros before it, but past bigint as it was written.
+/// The digits without the zeros before them.
+fn without_zeros(digits: &str) -> &str
+    ensures { result.now ≡ spec.without_zeros digits.now }
+{
+    let mut rest = digits;
+    while let Some(shorter) = rest.strip_prefix("0") {
+        rest = shorter;
+    }
+    rest
+}
+
+/// A number as refusals show it: without zeros before it, also past bigint.
 #[tactic(auto, unfolding(crate::specs::Numbers::shown_number))]
 pub(crate) fn shown_number(alloc: Global, negative: bool, digits: &str) -> Result<Str, NoMemory>
     ensures { IfOk result (λ text. text ≡ spec.shown_number negative digits.now) }
 {
     match number_of(alloc, negative, digits)? {
         Some(number) => Ok(Str::new(number.to_string(alloc)?)),
-        None if negative => with_minus(alloc, digits),
-        None => Str::from_text(alloc, digits),
+        None if negative => with_minus(alloc, without_zeros(digits)),
+        None => Str::from_text(alloc, without_zeros(digits)),
     }
 }
 
