@@ -1,13 +1,13 @@
 -- What SHOW prints.
 use Rattle.std.specs.Prelude.{ℕ, Bool, true, false, not, ◌&&◌, ◌||◌, ◌==◌, if◌then◌else◌, Option, None, Some, Result, Ok, Err, List, [], ◌∷◌, ◌++◌, codes}
 use Rattle.std.specs.Char.{is_ascii_digit, is_ascii_lowercase}
-use Rattle.std.specs.List.{list_all, list_any}
-use Rattle.std.specs.Str.{bytes_eq}
+use Rattle.std.specs.List.{list_all}
 use Rattle.q_base.specs.declared.code.Code.TheVariants.{UnknownSetting}
 use Rattle.q_base.specs.declared.errors.SqlError.{SqlError}
 use Rattle.q_base.specs.declared.settings.Mode.{Mode}
 use Rattle.q_base.specs.declared.settings.Mode.TheVariants as mode
 use Rattle.q_base.specs.declared.settings.Switches.{Switches}
+use Rattle.sql_expr.specs.Names.{is_reserved}
 use Rattle.savepoints.specs.declared.given.Name.{Name}
 use Rattle.savepoints.specs.declared.given.Name.TheVariants as names
 use Rattle.savepoints.specs.declared.given.Switch.{Switch}
@@ -30,18 +30,6 @@ is_on switch.Indexscan switches = switches.indexscan
 is_on switch.Hashjoin switches = switches.hashjoin
 is_on switch.Nestloop switches = switches.nestloop
 is_on switch.Sort switches = switches.sort
-
--- the words that are names only between quotes
-abbrev pub reserved_words : List (List ℕ)
-reserved_words =
-    codes "all" ∷ codes "and" ∷ codes "as" ∷ codes "asc" ∷ codes "between" ∷ codes "by" ∷ codes "create" ∷ codes "cross" ∷
-    codes "default" ∷ codes "desc" ∷ codes "distinct" ∷ codes "false" ∷ codes "for" ∷ codes "from" ∷ codes "group" ∷ codes "having" ∷
-    codes "in" ∷ codes "inner" ∷ codes "into" ∷ codes "is" ∷ codes "join" ∷ codes "limit" ∷ codes "not" ∷ codes "null" ∷
-    codes "offset" ∷ codes "on" ∷ codes "or" ∷ codes "order" ∷ codes "primary" ∷ codes "returning" ∷ codes "select" ∷ codes "set" ∷
-    codes "table" ∷ codes "to" ∷ codes "true" ∷ codes "union" ∷ codes "unique" ∷ codes "values" ∷ codes "where" ∷ codes "with" ∷ []
-
-unfoldable pub is_reserved : List ℕ → Bool
-is_reserved name = list_any (λ word. bytes_eq word name) reserved_words
 
 -- a small ASCII letter, a digit or an underscore
 abbrev pub is_name_byte : ℕ → Bool

@@ -3,50 +3,7 @@ ghost use Rattle.savepoints.specs.Shown as spec;
 
 use crate::given::Switch;
 use q_base::{Mode, NoMemory, Str, Switches};
-
-/// The words that a name has to be quoted for: those that are names only between quotes.
-const RESERVED: [&str; 40] = [
-    "all",
-    "and",
-    "as",
-    "asc",
-    "between",
-    "by",
-    "create",
-    "cross",
-    "default",
-    "desc",
-    "distinct",
-    "false",
-    "for",
-    "from",
-    "group",
-    "having",
-    "in",
-    "inner",
-    "into",
-    "is",
-    "join",
-    "limit",
-    "not",
-    "null",
-    "offset",
-    "on",
-    "or",
-    "order",
-    "primary",
-    "returning",
-    "select",
-    "set",
-    "table",
-    "to",
-    "true",
-    "union",
-    "unique",
-    "values",
-    "where",
-    "with",
-];
+use sql_expr::is_reserved;
 
 /// What SHOW prints for a mode.
 pub fn mode_word(mode: Mode) -> &'static str
@@ -155,13 +112,6 @@ fn is_name_byte(byte: u8) -> bool
     ensures { result ≡ spec.is_name_byte byte }
 {
     byte.is_ascii_lowercase() || byte.is_ascii_digit() || byte == b'_'
-}
-
-#[tactic(auto, unfolding(crate::specs::Shown::is_reserved))]
-fn is_reserved(name: &str) -> bool
-    ensures { result ≡ spec.is_reserved name.now }
-{
-    RESERVED.contains(&name)
 }
 
 /// Appends bytes as they are.
