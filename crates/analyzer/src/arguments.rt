@@ -15,8 +15,10 @@ use std::alloc::Global;
 
 /// The arguments of EXECUTE, each for the parameter at its place. Arguments past the types are left out.
 ///
-/// They hold no columns (42703, 42P01), parameters (42P02) or aggregates (42803). An argument whose type isn't
-/// assigned to the parameter's is 42804; the value itself is converted later.
+/// The first refusal stands: 42703 or 42P01 for a column, 42P02 for a parameter, 42803 for an aggregate, 22003 and
+/// 22P02 for a number or a string that its type doesn't hold, 42883 for an operator or a function that isn't there
+/// for its operands, 42725 for arithmetic without any type, and 42804 where AND, OR or NOT has no boolean or a type
+/// isn't assigned to the parameter's (PostgreSQL's `EvaluateParams` in prepare.c). Values are converted later.
 pub fn analyse_args(alloc: Global, args: &[Expr], types: &[SqlType]) -> Result<TargetList, Stop>
     ensures { Answers (spec.analysed args.now types.now) result }
 {

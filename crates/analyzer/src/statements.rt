@@ -27,10 +27,13 @@ pub enum Names<'a> {
 /// What an analysis gives.
 #[derive(Drop)]
 pub struct Analysed {
+    /// The statement by ids and types, a SELECT so far.
     pub bound: Rc<Bound>,
+    /// What its relation names found, none so far.
     pub ids: NameIds,
     /// The types of the parameters, from `$1` on.
     pub params: TypeList,
+    /// The names and types of the answer's columns.
     pub result: ResultType,
 }
 
@@ -38,8 +41,10 @@ pub struct Analysed {
 /// and is `None` exactly outside PREPARE, where no parameter stands (42P02). A parameter without a declared
 /// type takes that of its first use (PostgreSQL's manual, "PREPARE"). One analysis is counted in either case.
 ///
-/// The order of refusals is this project's own. A statement other than a SELECT without FROM is refused as not
-/// built yet, so no relation name is looked for so far.
+/// A statement other than a SELECT without FROM is 0A000, not built yet, so no relation name is looked for so
+/// far. A SELECT is refused, clause by clause, as 22003, 22P02, 42601, 42702, 42703, 42725, 42803, 42804, 42883,
+/// 42P01, 42P02, 42P10, 0A000 for arithmetic or a sum that isn't supported there, or 54000 past `$64`; then as
+/// 42P10 of DISTINCT, 42P18, and 54000 past 128 columns. This order and the limits are this project's own.
 pub fn analyse<L: Ledger>(
     alloc: Global,
     tree: &Statement,

@@ -1,7 +1,8 @@
 //! How long an operation of a container takes where it holds many entries.
 //!
 //! Run by hand with two words, a container and a count of entries, it prints a line for each operation:
-//! its name, and the nanoseconds that as many of it took. Without words it does nothing.
+//! its name, how often it was done, and the processor's time that this took, in seconds and the
+//! nanoseconds past them. Without words it does nothing.
 #![tactic(auto)]
 
 mod entries;

@@ -12,7 +12,8 @@ use std::marker::Model;
 const LAST_POSITION: u64 = 1 << 62;
 
 /// The outcomes at consecutive positions of a query's answer: the kept ones run from a first position
-/// up to the newest, and each push gives the next position its outcome.
+/// up to the newest, and each push gives the next position its outcome. In PostgreSQL a tuplestore
+/// (tuplestore.c) keeps the rows of a WITH HOLD cursor; the bound on positions is this project's own.
 #[derive(Drop)]
 pub struct RowBuffer {
     first: u64,

@@ -28,11 +28,12 @@ pub enum Choice {
 pub struct Tally {
     /// Uses that took a custom plan.
     pub custom_count: u64,
-    /// The costs of those plans together, with what their planning was charged.
+    /// The costs of those plans together, with what their planning was charged: 1000 for each table or
+    /// view of the query and once more. The unit of all costs is PostgreSQL's cpu_operator_cost.
     pub custom_sum: u128,
     /// Uses that took the generic plan.
     pub generic_count: u64,
-    /// The cost of the generic plan made last, without a charge for planning.
+    /// The cost of the generic plan made last, in the same unit, without a charge for planning.
     pub generic_cost: Option<u64>,
 }
 
@@ -49,8 +50,9 @@ impl Tally {
         }
     }
 
-    /// Counts a use that took a custom plan of this cost, for a query of this width: the number of its
-    /// tables and views, once views are pulled up.
+    /// Counts a use that took a custom plan of this cost, in units of PostgreSQL's cpu_operator_cost, for a
+    /// query of this width: the number of its tables and views, once views are pulled up. Only where fewer
+    /// than 2^62 such uses were counted, with a sum below 2^126.
     pub fn use_custom(&mut self, cost: u64, width: u32)
         requires few { self.old.custom_count < 2 ^ 62 }
         requires small { self.old.custom_sum < 2 ^ 126 }
@@ -60,7 +62,7 @@ impl Tally {
         self.custom_sum += cost as u128 + PLANNING_CHARGE * (width as u128 + 1);
     }
 
-    /// Counts a use that took the generic plan.
+    /// Counts a use that took the generic plan. Only where fewer than 2^62 such uses were counted.
     pub fn use_generic(&mut self)
         requires { self.old.generic_count < 2 ^ 62 }
         ensures { self.new ≡ with_generic self.old }

@@ -48,7 +48,7 @@ impl Marks {
         }
     }
 
-    /// A new source, which is marked and watches nothing.
+    /// A new source, which is marked and watches nothing. Only where fewer than 2^62 ids were given.
     pub fn add_source(&mut self) -> Result<SourceId, NoMemory>
         requires { self.old.given < 2 ^ 62 }
         ensures added { IfOk result (λ id. Changes self.old self.new id (Some (record { generation = self.old.given; uses = []; marked = true }))) }
@@ -67,7 +67,7 @@ impl Marks {
     }
 
     /// Makes the source watch `uses` in place of what it watched, and unmarks it, as after an analysis
-    /// that found these objects.
+    /// that found these objects. Only for a source that was added here and not removed since.
     pub fn watch(&mut self, source: SourceId, uses: &IdList) -> Result<(), NoMemory>
         requires { IsSome (source_of self.old source) }
         ensures ok { OnOk result (Changes self.old self.new source (Some (record { generation = source.generation; uses = uses.now; marked = false }))) }

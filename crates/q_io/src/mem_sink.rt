@@ -35,9 +35,9 @@ impl Model for MemSink {
 }
 
 impl MemSink {
-    /// A sink that writes over the bytes of `room`, at most `piece` of them in a call. The calls of
-    /// `write` are numbered from 0; those that `fails` lists fail, and so do those where the room is
-    /// full. Takes no memory.
+    /// A sink that writes over the bytes of `room`, at most `piece` of them in a call, where `piece` is
+    /// at least 1. The calls of `write` are numbered from 0; those that `fails` lists fail, and so do
+    /// those where the room is full. Takes no memory.
     pub fn new(room: Vec<u8>, piece: usize, fails: Vec<u64>) -> MemSink
         requires { 0 < piece }
         ensures { result ≡ record {

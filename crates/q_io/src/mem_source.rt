@@ -35,8 +35,8 @@ impl Model for MemSource {
 }
 
 impl MemSource {
-    /// A source of `bytes` that gives at most `piece` of them in a call. The calls of `read` are
-    /// numbered from 0, and those that `fails` lists fail. Takes no memory.
+    /// A source of `bytes` that gives at most `piece` of them in a call, where `piece` is at least 1.
+    /// The calls of `read` are numbered from 0, and those that `fails` lists fail. Takes no memory.
     pub fn new(bytes: Vec<u8>, piece: usize, fails: Vec<u64>) -> MemSource
         requires { 0 < piece }
         ensures { result ≡ record {

@@ -27,7 +27,8 @@ impl Model for SureSource {
 }
 
 impl SureSource {
-    /// A source of `bytes` that gives at most `piece` of them in a call. Takes no memory.
+    /// A source of `bytes` that gives at most `piece` of them in a call, where `piece` is at least 1.
+    /// Takes no memory.
     pub fn new(bytes: Vec<u8>, piece: usize) -> SureSource
         requires { 0 < piece }
         ensures { result ≡ record { left = bytes.items; piece = piece } }

@@ -54,7 +54,8 @@ fn truth_or_unknown(truth: Result<Option<bool>, Code>) -> Option<bool>
     }
 }
 
-/// The truth value of a condition that may hold arithmetic, `None` where it is unknown, or its first fault.
+/// The truth value of a condition that may hold arithmetic, `None` where it is unknown, or its first fault, as of
+/// `eval_target`: 22003 where a number is out of the range of its type, 22012 for a division by zero.
 pub fn eval_fallible(cond: &Cond, row: &[Value], params: &[Value]) -> Result<Option<bool>, Code>
     ensures { result ≡ spec.truth_or_fault (spec.value_of cond.now row.now params.now) }
 {

@@ -8,10 +8,12 @@ pub struct Common {
     pub count: u64,
 }
 
-/// The commonest values of a column.
+/// The commonest values of a column: up to 100, as many as PostgreSQL keeps by default (its manual,
+/// default_statistics_target). The commonest comes first, and of equally common ones the smaller; the
+/// latter, and counts of all rows in place of a sample, are this project's own.
 pub type CommonList = ListOf<Common>;
 
-/// What ANALYZE found of a column: its number of distinct values that aren't null, and the commonest of them.
+/// What ANALYZE found of a column: how many different values it has, null aside, and the commonest of them.
 #[derive(Debug, Drop)]
 pub struct ColumnStats {
     pub distinct: u64,

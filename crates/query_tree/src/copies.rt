@@ -8,6 +8,7 @@ use std::alloc::Global;
 
 /// What a second owner of the same value can be made of.
 pub trait Copies: Sized + Drop {
+    /// A second owner of the same value, or `NoMemory` where its memory is refused.
     fn copy(&self, alloc: Global) -> Result<Self, NoMemory>
         ensures { IfOk result (λ copy. copy ≡ self.now) };
 }

@@ -57,6 +57,8 @@ pub type AggregateList = ListOf<Aggregate>;
 pub struct SortKey {
     pub target: Target,
     pub desc: bool,
+    /// Nulls come before all other values, and else behind them. By default they do exactly where the key
+    /// descends (PostgreSQL's manual, "Sorting Rows (ORDER BY)").
     pub nulls_first: bool,
 }
 
@@ -81,14 +83,18 @@ pub struct Query {
     pub aggregate_calls: usize,
     /// The conjuncts of HAVING.
     pub having: CondList,
+    /// Of equal rows of the answer one is given: SELECT DISTINCT.
     pub distinct: bool,
+    /// Empty where ORDER BY isn't written.
     pub order: SortKeyList,
     /// Of an integer type; a null constant is LIMIT ALL or LIMIT NULL.
     pub limit: Option<Target>,
+    /// Of an integer type: how many rows are skipped, none where it is null.
     pub offset: Option<Target>,
 }
 
-/// The ids of the tables and views that a query's items name.
+/// The ids of the tables and views that a query's items name. Views aren't followed: an item of one counts by
+/// the view's own id alone, also where it has a block.
 pub fn direct(alloc: Global, query: &Query) -> Result<IdList, NoMemory>
     ensures { IfOk result (λ ids. (id : ObjId) → Contains ids id ↔ Contains (ids_of query.now) id) }
 {

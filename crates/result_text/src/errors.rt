@@ -4,7 +4,8 @@ ghost use Rattle.result_text.specs.Messages as spec;
 use crate::append::append;
 use q_base::{NoMemory, SqlError, Str};
 
-/// Appends what is printed for a refusal: `ERROR:`, its SQLSTATE and its text.
+/// Appends what is printed for a refusal, the line `ERROR:  code: text` of its SQLSTATE and its text, as psql
+/// begins it under VERBOSITY verbose (`pqBuildErrorMessage3` in fe-protocol3.c of PostgreSQL).
 #[tactic(auto, unfolding(crate::specs::Messages::error_line))]
 pub fn error_text(error: &SqlError, out: &mut Vec<u8>) -> Result<(), NoMemory>
     ensures { OnOk result (out.new.items ≡ out.old.items ++ spec.error_line error.now) }
@@ -13,7 +14,7 @@ pub fn error_text(error: &SqlError, out: &mut Vec<u8>) -> Result<(), NoMemory>
     append_message(error, out)
 }
 
-/// Appends what is printed for a warning, which comes before the tag.
+/// Appends what is printed for a warning, which comes before the tag: as a refusal's line, with `WARNING:`.
 #[tactic(auto, unfolding(crate::specs::Messages::warning_line))]
 pub fn warning_text(warning: &SqlError, out: &mut Vec<u8>) -> Result<(), NoMemory>
     ensures { OnOk result (out.new.items ≡ out.old.items ++ spec.warning_line warning.now) }

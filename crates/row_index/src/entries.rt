@@ -3,8 +3,10 @@ use q_value::Value;
 
 /// The values of a row in the columns of an index, in the order of the columns.
 ///
-/// Keys are ordered place by place: numbers by value, before texts by bytes, before booleans, and nulls
-/// last. Two keys that tie, as an integer and a bigint of one value do, are the same key.
+/// Two keys go by the first values in which they differ, ascending with null as the greatest (PostgreSQL's
+/// manual, "Indexes and ORDER BY") and texts by their bytes; a key is below each longer one that begins with
+/// it. Integers of all types count by their value alone: 1 and 1 as a bigint make one key. Any number is
+/// below any text, and any text below any boolean. These last two rules are this project's own.
 pub type Key = ListOf<Value>;
 
 /// An entry of an index: a key, and the place of a row that has it.
@@ -21,8 +23,8 @@ pub struct Edge {
     pub included: bool,
 }
 
-/// The keys that begin with `equal`. Where there is an edge, only those of them whose next value isn't
-/// null and lies within the edges.
+/// A range of keys: those whose first values are the ones of `equal`. An edge bounds the value behind these
+/// too, from below or from above; that value then has to be there, and a null never is within.
 #[derive(Debug, Drop)]
 pub struct KeyRange {
     pub equal: Key,

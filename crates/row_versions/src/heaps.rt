@@ -85,7 +85,8 @@ impl Heaps {
         Ok(())
     }
 
-    /// The row that a slot shows at a snapshot.
+    /// The row that a slot shows at a snapshot; `None` exactly where it shows none, as where the table or
+    /// the slot isn't there.
     pub fn visible(&self, table: ObjId, slot: SlotId, snap: Snap) -> Option<&Row>
         ensures { option_copied result ≡ shown self.now table slot.0 snap }
     {
@@ -93,7 +94,7 @@ impl Heaps {
         slot.shown(snap.moment)
     }
 
-    /// The least slot not below `from` that shows a row at a snapshot.
+    /// The least slot not below `from` that shows a row at a snapshot; `None` exactly where none does.
     pub fn next_slot(&self, table: ObjId, from: SlotId, snap: Snap) -> Option<SlotId>
         ensures { MatchOption result (IsLastRow self.now table from.0 snap) (λ slot. IsNextRow self.now table from.0 snap slot.0) }
     {
@@ -108,7 +109,8 @@ impl Heaps {
         heap.next_shown(from, moment)
     }
 
-    /// The row of a slot's kept version, counted from 0 at the oldest.
+    /// The row of a slot's kept version, counted from 0 at the oldest; `None` exactly where the slot keeps
+    /// no version of that number.
     pub fn version(&self, table: ObjId, slot: SlotId, at: usize) -> Option<&Row>
         ensures { option_copied result ≡ kept_version self.now table slot.0 at }
     {
@@ -116,7 +118,7 @@ impl Heaps {
         slot.version(at)
     }
 
-    /// The newest snapshot. Later changes are not shown by it.
+    /// The newest snapshot. Later changes are not shown by it. Only where fewer than 2^62 were given.
     pub fn advance(&mut self) -> Snap
         requires { self.old.newest < 2 ^ 62 }
         ensures snap { result ≡ self.old.newest }
@@ -131,8 +133,9 @@ impl Heaps {
         snap
     }
 
-    /// Inserts a row into a slot of its own, after all others of the table. Refused where 2^20 rows
-    /// of all tables together are live.
+    /// Inserts a row into a slot of its own, after all others of the table. Refused as 54000 exactly where
+    /// 2^20 rows of all tables together are live, a limit of this project's own. Only for a table that was
+    /// added and has fewer than 2^62 slots.
     pub fn insert(&mut self, table: ObjId, row: Row) -> Result<SlotId, Stop>
         requires added { IsAdded self.old table }
         requires few { length (slots_of table self.old.tables) < 2 ^ 62 }
@@ -160,7 +163,8 @@ impl Heaps {
         Ok(SlotId(slot as u64))
     }
 
-    /// Puts a newer version of a row into its slot.
+    /// Puts a newer version of a row into its slot, which has to be live: the newest snapshot shows a row
+    /// there.
     pub fn supersede(&mut self, table: ObjId, slot: SlotId, row: Row) -> Result<(), NoMemory>
         requires { IsSome (shown self.old table slot.0 self.old.newest) }
         ensures { OnOk result (Supersedes table slot.0 row self.old self.new) }
@@ -183,7 +187,7 @@ impl Heaps {
         Ok(())
     }
 
-    /// Deletes the row of a slot.
+    /// Deletes the row of a slot, which has to be live: the newest snapshot shows a row there.
     pub fn end(&mut self, table: ObjId, slot: SlotId) -> Result<(), NoMemory>
         requires { IsSome (shown self.old table slot.0 self.old.newest) }
         ensures { OnOk result (Ends table slot.0 self.old self.new) }
@@ -207,7 +211,7 @@ impl Heaps {
         Ok(())
     }
 
-    /// Holds what a snapshot shows until the pin is handed back.
+    /// Holds what a snapshot shows until the pin is handed back. Only for a snapshot that `advance` gave.
     pub fn pin(&mut self, snap: Snap) -> Result<Pin, NoMemory>
         requires { snap < self.old.newest }
         ensures { IfOk result (λ pin. (pin ≡ snap) × (self.new ≡ record self.old { pins = self.old.pins ++ snap ∷ [] })) }
@@ -218,7 +222,7 @@ impl Heaps {
         })
     }
 
-    /// Ends a pin.
+    /// Ends a pin, which has to be one that is held. What it alone held is then for `prune` to drop.
     pub fn unpin(&mut self, pin: Pin)
         requires { Contains self.old.pins pin }
         ensures { self.new ≡ record self.old { pins = unpinned pin self.old.pins } }
@@ -228,7 +232,8 @@ impl Heaps {
         }
     }
 
-    /// Names the state of now.
+    /// Names the state of now. The mark stands, so that `rollback_to` may go back to it, at least until
+    /// `forget` or a rollback to an earlier mark.
     pub fn mark(&self) -> HeapMark
         ensures mark { result ≡ record { changes = length self.now.log; moment = self.now.newest } }
         ensures stands { Stands self.now result }
@@ -240,7 +245,8 @@ impl Heaps {
         }
     }
 
-    /// Takes back the changes since the mark. Slots that were given since are not given again.
+    /// Takes back the changes since the mark, which has to stand. Slots that were given since are not given
+    /// again. Each pinned snapshot has to be older than the mark, and so shows what it showed.
     pub fn rollback_to(&mut self, mark: HeapMark)
         requires stands { Stands self.old mark }
         requires pins { All (λ pin. pin < mark.moment) self.old.pins }
@@ -278,14 +284,15 @@ impl Heaps {
         }
     }
 
-    /// Keeps the changes for good, as COMMIT does.
+    /// Keeps the changes for good, as COMMIT does: none of them can be taken back any more.
     pub fn forget(&mut self)
         ensures { self.new ≡ record self.old { log = [] } }
     {
         self.log.clear();
     }
 
-    /// Drops the versions that neither the newest snapshot nor a pinned one shows.
+    /// Drops the versions that neither the newest snapshot nor a pinned one shows. No change may be left
+    /// to take back, as directly after `forget`.
     pub fn prune(&mut self)
         requires { self.old.log ≡ [] }
         ensures state { self.new ≡ record self.old { tables = pruned (self.old.newest ∷ self.old.pins) self.old.tables } }

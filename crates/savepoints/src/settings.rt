@@ -52,7 +52,8 @@ impl Settings {
     ghost use Rattle.savepoints.specs.Settings as spec;
 
     /// The settings that a session begins with: search_path `public`, plan_cache_mode as given, all
-    /// others on.
+    /// others on. PostgreSQL's defaults are these too (its manual, "Query Planning"), but for
+    /// search_path, which is `"$user", public` there, and for a mode other than `auto`.
     pub fn new(alloc: Global, mode: Mode) -> Result<Settings, NoMemory>
         ensures { IfOk result (λ settings. settings ≡ spec.begun mode) }
     {
@@ -69,8 +70,10 @@ impl Settings {
     ///
     /// search_path takes any list, each value of which names a schema; plan_cache_mode takes `auto`,
     /// `force_generic_plan` and `force_custom_plan` in any case; the others take the texts of booleans
-    /// without blanks around, and numbers that are 0 or 1. Refused as 42704 where the name is unknown,
-    /// and as 22023 where the setting can't have the value, or has several and isn't search_path.
+    /// without blanks around, and numbers that are 0 or 1 (PostgreSQL's manual, "Parameter Names and
+    /// Values"). Refused as 42704 where the name is unknown, and as 22023 where the setting isn't
+    /// search_path and can't have the value, or is given several or an empty list. The text of 22023
+    /// names the value, of several the second, and of none the empty text (this project's own).
     pub fn set(&mut self, name: &str, value: &SetValue, local: bool) -> Result<(), Stop>
         ensures set { LeadsTo (spec.set name.now value.now local self.old) self.new result }
         ensures kept { OnErr result (self.new ≡ self.old) }
@@ -87,6 +90,11 @@ impl Settings {
     }
 
     /// Appends the current value as SHOW prints it. Refused as 42704 where the name is unknown.
+    ///
+    /// The names of search_path are joined by `, `. Between quotes, its own doubled, stands each name but
+    /// one of small ASCII letters, `_` and digits that begins with no digit, isn't empty and isn't
+    /// reserved (PostgreSQL's `quote_identifier` in ruleutils.c). The reserved words are this project's
+    /// own, and so are quotes around a number.
     pub fn text(&self, name: &str, out: &mut Vec<u8>) -> Result<(), Stop>
         ensures text { LeadsTo (shown_after out.old.items name.now self.now.values.current) out.new.items result }
         ensures kept { IfErr result (StopsBy (λ _. out.new.items ≡ out.old.items)) }
@@ -125,7 +133,7 @@ impl Settings {
         self.held.choices().switches
     }
 
-    /// Names the values of now.
+    /// Names the values of now. The mark stands at least until `commit` or a rollback to an earlier one.
     pub fn mark(&self) -> SetMark
         ensures mark { result ≡ length self.now.past }
         ensures stands { spec.Stands self.now result }
@@ -136,7 +144,8 @@ impl Settings {
         }
     }
 
-    /// Gives back the values of the mark, the session's and the current ones.
+    /// Gives back the values of the mark, the session's and the current ones. The mark has to stand: no
+    /// fewer changes can be taken back than when it was taken.
     pub fn rollback_to(&mut self, mark: SetMark)
         requires { spec.Stands self.old mark }
         ensures state { self.new ≡ spec.at_mark self.old mark }

@@ -29,8 +29,8 @@ pub(crate) struct Savepoint<M: Copy> {
     pub(crate) mark: M,
 }
 
-/// The block of a session and the stack of its savepoints, the newest last. A savepoint's level is its
-/// place on the stack, counted from 1 (PostgreSQL's manual, SAVEPOINT, RELEASE SAVEPOINT and ROLLBACK TO
+/// The block of a session and the stack of its savepoints, the newest last: the oldest has level 1, the
+/// next one level 2, and so on (PostgreSQL's manual, SAVEPOINT, RELEASE SAVEPOINT and ROLLBACK TO
 /// SAVEPOINT).
 #[derive(Drop)]
 pub struct Transaction<M: Copy> {
@@ -77,7 +77,7 @@ impl<M: Copy> Transaction<M> {
         self.savepoints.len() as u32
     }
 
-    /// Opens a block whose begin has `mark`, or answers false, changing nothing, exactly in a block.
+    /// Opens a block and keeps `mark` for `finish`. False, and no change, exactly where one is open.
     pub fn begin(&mut self, mark: M) -> bool
         ensures answer { result ≡ not (spec.is_open self.old.status) }
         ensures begun { self.new ≡ spec.begun mark self.old }
@@ -90,7 +90,7 @@ impl<M: Copy> Transaction<M> {
         true
     }
 
-    /// Makes an active block failed, and otherwise changes nothing.
+    /// Notes that a command was refused: an active block is failed from then on, and nothing else changes.
     pub fn fail(&mut self)
         ensures { self.new ≡ record self.old { status = spec.failed self.old.status } }
     {
@@ -99,7 +99,8 @@ impl<M: Copy> Transaction<M> {
         }
     }
 
-    /// Ends the block and answers the mark of its begin; `None` comes exactly outside a block.
+    /// Leaves the block with all its savepoints. Gives the mark with which it was opened, and `None`
+    /// exactly where no block is open.
     pub fn finish(&mut self) -> Option<M>
         ensures answer { result ≡ self.old.begun }
         ensures outside { is_some result ≡ spec.is_open self.old.status }
@@ -110,9 +111,9 @@ impl<M: Copy> Transaction<M> {
         self.begun.take()
     }
 
-    /// Drops the savepoints after the newest one of that name, makes the block active, and answers that
-    /// savepoint's level and mark; `None` comes exactly where no such savepoint is there, and then
-    /// nothing changes.
+    /// Returns to the savepoint of that name, of several to the newest, and gives its level and its mark.
+    /// It stays, those made after it go, and a failed block is active again. `None`, and no change,
+    /// exactly where no savepoint has the name, as outside a block.
     pub fn rollback_to(&mut self, name: &str) -> Option<(u32, M)>
         ensures answer { result ≡ spec.newest name.now self.old.stack }
         ensures kept { self.new ≡ spec.returned (spec.newest name.now self.old.stack) self.old }
@@ -126,8 +127,8 @@ impl<M: Copy> Transaction<M> {
         Some((level, mark))
     }
 
-    /// Puts a savepoint on the stack. Refused as 25P01 outside a block, and as 54000 exactly where 1,024
-    /// are there.
+    /// Puts a savepoint on the stack. Refused as 25P01 outside a block, and in one as 54000 exactly where
+    /// 1,024 are there, a limit of this project's own.
     pub fn savepoint(&mut self, name: Str, mark: M) -> Result<(), Stop>
         ensures saved { LeadsTo (spec.saved name mark self.old) self.new result }
         ensures kept { OnErr result (self.new ≡ self.old) }

@@ -61,7 +61,8 @@ impl Session {
 
     /// Runs one command: appends its output to `out`, and says whether it was refused.
     ///
-    /// `command` is its text without the semicolon. After `NoMemory` the session is only dropped.
+    /// `command` is its text without the semicolon, of at most 2^20 bytes, and fewer than 2^30 commands ran
+    /// before; both limits are this project's own. After `NoMemory` the session is only dropped.
     pub fn step<L: Ledger>(
         &mut self,
         command: &str,

@@ -38,6 +38,7 @@ impl<'a> Cursor<'a> {
         self.rest.len()
     }
 
+    /// The next token, which isn't passed; `None` where none is left.
     pub fn peek(&self) -> Option<&'a Token>
         ensures { option_copied result ≡ slice_get self.now 0 }
     {
@@ -63,6 +64,7 @@ impl<'a> Cursor<'a> {
         }
     }
 
+    /// Whether the word, given in small letters, comes next. A quoted identifier is no word.
     #[tactic(auto, unfolding(crate::specs::Reading::sees_word))]
     pub fn sees_word(&self, word: &str) -> bool
         ensures { result ≡ spec.sees_word word.now self.now }
@@ -84,7 +86,7 @@ impl<'a> Cursor<'a> {
         found
     }
 
-    /// 42601 where another token than the word comes next.
+    /// Goes past the word; 42601 where it doesn't come next.
     pub fn expect_word(&mut self, alloc: Global, word: &str) -> Result<(), Stop>
         ensures { Reads (spec.expect_word word.now self.old) result self.new }
     {
@@ -95,6 +97,7 @@ impl<'a> Cursor<'a> {
         }
     }
 
+    /// Whether the sign comes next.
     #[tactic(auto, unfolding(crate::specs::Reading::sees_sign))]
     pub fn sees_sign(&self, sign: Sign) -> bool
         ensures { result ≡ spec.sees_sign sign self.now }
@@ -116,7 +119,7 @@ impl<'a> Cursor<'a> {
         found
     }
 
-    /// 42601 where another token than the sign comes next.
+    /// Goes past the sign; 42601 where it doesn't come next.
     pub fn expect_sign(&mut self, alloc: Global, sign: Sign) -> Result<(), Stop>
         ensures { Reads (spec.expect_sign sign self.old) result self.new }
     {

@@ -15,6 +15,8 @@ use std::alloc::Global;
 
 /// The longest expression that starts at token `at`, and the number of the token behind it: of `1 + )` that is `1`.
 /// 42601 exactly where none starts there. It takes one reading more for each operator behind the expression.
+///
+/// The load of all the tokens, as `load` gives it, has to be at most 200, and `at` at most their number.
 pub fn read_expr(alloc: Global, tokens: &[Token], at: usize) -> Result<(Expr, usize), Stop>
     requires load { load_of tokens.now ≤ 200 }
     requires within { at ≤ length tokens.now }

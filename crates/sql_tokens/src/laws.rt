@@ -1,4 +1,4 @@
-//! Laws of this crate's definitions, which functions above cite.
+//! Laws of this crate's definitions, for who reads them: no function cites them.
 ghost use Rattle.std.specs.Prelude.{◌≡◌, ◌↔◌, ℕ, List, [], ◌∷◌, Ok};
 ghost use Rattle.sql_tokens.specs.declared.lexer.Place.{Place};
 ghost use Rattle.sql_tokens.specs.declared.token.Token.{Token};

@@ -60,11 +60,11 @@ impl Place {
 
 /// The tokens of a command's text, in order, or the first refusal in the text.
 ///
-/// A syntax error is an unended string, quoted identifier or block comment, an empty quoted
-/// identifier, a number with a letter or `_` directly after it, a `$` without digits, and any other
-/// character that begins no token; an identifier longer than 63 bytes is refused by its name.
-/// The tokens are PostgreSQL's (its manual, "Lexical Structure"), but for backslash commands and
-/// for the characters that an operator may have.
+/// 42601 is an unended string, quoted identifier or block comment, an empty quoted identifier, a
+/// number with an ASCII letter or `_` directly after it, a `$` without digits, and any other
+/// character that begins no token. 42622, which names it, is a word or a quoted identifier longer
+/// than 63 bytes. The tokens are PostgreSQL's (its manual, "Lexical Structure"), but for backslash
+/// commands, the characters that an operator may have, and 42622, where PostgreSQL cuts the name.
 #[tactic(auto, unfolding(crate::specs::Tokens::tokens_of))]
 pub fn tokens(alloc: Global, text: &str) -> Result<TokenList, Stop>
     ensures exact { MatchResult result (λ ts. tokens_of text.now ≡ Ok ts) (StopsBy (λ e. tokens_of text.now ≡ Err e)) }

@@ -25,7 +25,7 @@ pub enum Place {
 }
 
 impl Place {
-    /// Content a text.
+    /// The place before the first byte of a text.
     pub const START: Place = Place::Between { blank: true };
 
     /// The place after `byte`, or `None` where the byte is a cut.
