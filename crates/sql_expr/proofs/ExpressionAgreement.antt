@@ -15,6 +15,7 @@ use Rattle.sql_expr.specs.Names as names
 use Rattle.sql_expr.specs.Expressions as spec
 use Rattle.sql_expr.specs.Lines.{Line, nowhere, gives, one, unless, stands_for, key, mark}
 use Rattle.sql_expr.specs.Lines as lines
+use Rattle.sql_expr.specs.Ended.{is_ended}
 use Rattle.sql_expr.specs.Grammar as grammar
 use Rattle.sql_expr.proofs.Heads.{Barred, Head, clear, has_word, begins, begins-left, begins-right}
 use Rattle.sql_expr.proofs.Agreement.{Agrees, Stands, nothing, bind_some, read_then, taken-cases, taken-some, tests-word, agrees-pure, agrees-refuse, agrees-bind, agrees-same, agrees-wider, agrees-fewer, agrees-test, agrees-word, agrees-sign, agrees-word-deeper, agrees-sign-deeper, agrees-expect_word, agrees-expect_sign, agrees-behind, agrees-said, agrees-taken, agrees-one}
@@ -366,7 +367,7 @@ agrees-expression = record {
   takes = λ ts x us spelt. (agrees-at 0 spelt.0).takes ts x us spelt.1;
 }
 
-ended-clear : (us : Tokens) → grammar.is_ended us ≡ true → clear operators us ≡ true
+ended-clear : (us : Tokens) → is_ended us ≡ true → clear operators us ≡ true
 ended-clear [] e = refl
 ended-clear (token.Word w ∷ us) e = same-or (has_word operators.words w) e
   where
@@ -384,5 +385,5 @@ pub expression-spelt : (ts : Tokens) (x : Expr) (us : Tokens) → spec.expressio
 expression-spelt ts x us e = (agrees-expression {S = Unit {0}} {n = length ts}).sound tt ts x us e
 
 -- an expression behind which no operator comes is the one that is read
-pub expression-read : (ts : Tokens) (x : Expr) (us : Tokens) → grammar.expression ts x us → grammar.is_ended us ≡ true → spec.expression ts ≡ Some (x, us)
+pub expression-read : (ts : Tokens) (x : Expr) (us : Tokens) → grammar.expression ts x us → is_ended us ≡ true → spec.expression ts ≡ Some (x, us)
 expression-read ts x us spelt e = (agrees-expression {S = Unit {0}} {n = length ts}).complete ts x us (omega arith) spelt (ended-clear us e)

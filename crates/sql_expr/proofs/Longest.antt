@@ -8,7 +8,7 @@ use Rattle.sql_tree.specs.declared.expr.Expr.{Expr}
 use Rattle.sql_expr.specs.Reading.{Tokens}
 use Rattle.sql_expr.specs.Expressions as spec
 use Rattle.sql_expr.specs.Grammar as grammar
-use Rattle.sql_expr.specs.Grammar.{is_ended}
+use Rattle.sql_expr.specs.Ended.{is_ended}
 use Rattle.sql_expr.specs.Ended.{where_ended, IsToldOf, IsLongest}
 use Rattle.sql_expr.proofs.Agreement.{same_value, same_rest}
 use Rattle.sql_expr.proofs.ExpressionAgreement.{expression-spelt, expression-read}

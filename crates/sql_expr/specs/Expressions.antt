@@ -1,5 +1,5 @@
 -- Expressions, a reading function for each line of their grammar.
-use Rattle.std.specs.Prelude.{ℕ, zero, suc, Bool, true, List, [], ◌∷◌, length, Option, Some, None, codes, if◌then◌else◌}
+use Rattle.std.specs.Prelude.{ℕ, zero, suc, Bool, List, [], ◌∷◌, length, Option, Some, None, codes, if◌then◌else◌}
 use Rattle.sql_tokens.specs.declared.token.Sign.TheVariants as sign
 use Rattle.sql_tree.specs.declared.expr.Arithmetic.{Arithmetic}
 use Rattle.sql_tree.specs.declared.expr.Expr.{Expr}
@@ -7,7 +7,7 @@ use Rattle.sql_tree.specs.declared.expr.Expr.TheVariants as e
 use Rattle.sql_expr.specs.declared.grammar.Level.{Level}
 use Rattle.sql_expr.specs.declared.grammar.Level.TheVariants.{Whole, Negated, Signed}
 use Rattle.sql_expr.specs.Reading.{Text, Parser, ◌>>=◌, ◌>>◌, ◌<$>◌, pure, refuse, taken, eat_word, eat_sign, expect_word, expect_sign, separated, separated_from, goes_on}
-pub use Rattle.sql_expr.specs.Literals.{constant_of, constant_of_literal, negative_number}
+unfoldable pub use Rattle.sql_expr.specs.Literals.{constant_of, constant_of_literal, negative_number}
 use Rattle.sql_expr.specs.Literals.{digits_of}
 use Rattle.sql_expr.specs.Names.{name}
 use Rattle.sql_expr.specs.Operators.{comparison_of, additive_of, multiplicative_of}

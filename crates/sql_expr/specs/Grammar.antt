@@ -1,20 +1,14 @@
 -- The grammar of expressions: which tokens spell one, line by line.
-use Rattle.std.specs.Prelude.{◌≡◌, ◌⊎◌, ◌<◌, ℕ, zero, suc, Bool, true, false, not, List, [], ◌∷◌, length, Some, None, codes}
-use Rattle.std.specs.List.{list_any}
-use Rattle.std.specs.Str.{bytes_eq}
-use Rattle.sql_tokens.specs.declared.token.Token.{Token}
-use Rattle.sql_tokens.specs.declared.token.Token.TheVariants as token
-use Rattle.sql_tokens.specs.declared.token.Sign.{Sign}
+use Rattle.std.specs.Prelude.{◌≡◌, ◌⊎◌, ◌<◌, ℕ, zero, suc, Bool, List, [], ◌∷◌, length, Some, None, codes}
 use Rattle.sql_tokens.specs.declared.token.Sign.TheVariants as sign
 use Rattle.sql_tree.specs.declared.expr.Arithmetic.{Arithmetic}
 use Rattle.sql_tree.specs.declared.expr.Expr.{Expr}
 use Rattle.sql_tree.specs.declared.expr.Expr.TheVariants as e
 use Rattle.sql_expr.specs.declared.grammar.Level.{Level}
 use Rattle.sql_expr.specs.declared.grammar.Level.TheVariants.{Whole, Negated, Signed}
-use Rattle.sql_expr.specs.Reading.{Text, Tokens, same_sign}
+use Rattle.sql_expr.specs.Texts.{Text, Tokens}
 use Rattle.sql_expr.specs.Lines.{Line, ◌>>=◌, ◌>>◌, ◌<$>◌, ◌or◌, nowhere, gives, one, unless, key, mark, said, many, separated, list}
-use Rattle.sql_expr.specs.Literals.{constant_of, digits_of, negative_number}
-use Rattle.sql_expr.specs.Names.{name_of}
+use Rattle.sql_expr.specs.Terminals.{name_of, constant_of, digits_of, negative_number}
 use Rattle.sql_expr.specs.Operators.{comparison_of, additive_of, multiplicative_of}
 
 -- a word that isn't reserved, or a quoted identifier
@@ -155,24 +149,3 @@ expression ts x us = (depth : ℕ) × disjunction (within depth) ts x us
 -- the longest expression that begins the tokens, and no other is as long
 abbrev pub longest : Line Expr
 longest ts x us = expression ts x us × ((y : Expr) (vs : Tokens) → expression ts y vs → (length us < length vs) ⊎ ((y ≡ x) × (vs ≡ us)))
-
--- ---- what can come behind an expression
-
--- a token that can go on with an expression
-abbrev pub continues_by_word : Text → Bool
-continues_by_word w = list_any (λ word. bytes_eq w word) (codes "or" ∷ codes "and" ∷ codes "is" ∷ codes "not" ∷ codes "in" ∷ codes "between" ∷ [])
-
-abbrev pub continues_by_sign : Sign → Bool
-continues_by_sign s = list_any (λ operator. same_sign s operator)
-    (sign.Equal ∷ sign.NotEqual ∷ sign.Less ∷ sign.LessEqual ∷ sign.Greater ∷ sign.GreaterEqual
-    ∷ sign.Plus ∷ sign.Minus ∷ sign.Star ∷ sign.Slash ∷ sign.LeftParen ∷ sign.Dot ∷ [])
-
-abbrev pub continues : Token → Bool
-continues (token.Word w) = continues_by_word w
-continues (token.Sign s) = continues_by_sign s
-continues _ = false
-
--- no such token comes next
-abbrev pub is_ended : Tokens → Bool
-is_ended [] = true
-is_ended (t ∷ ts) = not (continues t)

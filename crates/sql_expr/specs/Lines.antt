@@ -4,7 +4,7 @@ use Rattle.sql_tokens.specs.declared.token.Token.{Token}
 use Rattle.sql_tokens.specs.declared.token.Token.TheVariants as token
 use Rattle.sql_tokens.specs.declared.token.Sign.{Sign}
 use Rattle.sql_tokens.specs.declared.token.Sign.TheVariants as sign
-use Rattle.sql_expr.specs.Reading.{Text, Tokens}
+use Rattle.sql_expr.specs.Texts.{Text, Tokens}
 
 abbrev pub Line : Type 0 → Type 1
 Line A = Tokens → A → Tokens → Type 0

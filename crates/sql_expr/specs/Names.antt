@@ -1,28 +1,7 @@
--- Names: words that aren't reserved, and quoted identifiers.
-use Rattle.std.specs.Prelude.{Bool, false, is_some, List, [], ◌∷◌, Option, Some, None, codes, if◌then◌else◌}
-use Rattle.std.specs.List.{list_any}
-use Rattle.std.specs.Str.{bytes_eq}
-use Rattle.sql_tokens.specs.declared.token.Token.{Token}
-use Rattle.sql_tokens.specs.declared.token.Token.TheVariants as token
+-- Names as they are read.
+use Rattle.std.specs.Prelude.{Bool, false, is_some, [], ◌∷◌, Option}
 use Rattle.sql_expr.specs.Reading.{Text, Tokens, Parser, ◌>>=◌, taken, required}
-
-abbrev pub reserved_words : List Text
-reserved_words =
-    codes "all" ∷ codes "and" ∷ codes "as" ∷ codes "asc" ∷ codes "between" ∷ codes "by" ∷ codes "create" ∷ codes "cross" ∷
-    codes "default" ∷ codes "desc" ∷ codes "distinct" ∷ codes "false" ∷ codes "for" ∷ codes "from" ∷ codes "group" ∷ codes "having" ∷
-    codes "in" ∷ codes "inner" ∷ codes "into" ∷ codes "is" ∷ codes "join" ∷ codes "limit" ∷ codes "not" ∷ codes "null" ∷
-    codes "offset" ∷ codes "on" ∷ codes "or" ∷ codes "order" ∷ codes "primary" ∷ codes "returning" ∷ codes "select" ∷ codes "set" ∷
-    codes "table" ∷ codes "to" ∷ codes "true" ∷ codes "union" ∷ codes "unique" ∷ codes "values" ∷ codes "where" ∷ codes "with" ∷ []
-
--- the word is a name only between quotes
-unfoldable pub is_reserved : Text → Bool
-is_reserved word = list_any (λ reserved. bytes_eq reserved word) reserved_words
-
--- the name that a token is
-abbrev pub name_of : Token → Option Text
-name_of (token.Word word) = if is_reserved word then None else Some word
-name_of (token.Quoted name) = Some name
-name_of _ = None
+unfoldable pub use Rattle.sql_expr.specs.Terminals.{reserved_words, is_reserved, name_of}
 
 unfoldable pub sees_name : Tokens → Bool
 sees_name [] = false

@@ -4,7 +4,7 @@ ghost use Rattle.sql_expr.specs.Load.{load_of};
 ghost use Rattle.sql_tree.specs.declared.expr.Expr.{Expr};
 ghost use Rattle.sql_expr.specs.Reading.{Tokens};
 ghost use Rattle.sql_expr.specs.Expressions as spec;
-ghost use Rattle.sql_expr.specs.Ended.{where_ended, IsToldOf, IsLongest};
+ghost use Rattle.sql_expr.specs.Ended.{is_ended, continues_by_word, continues_by_sign, where_ended, IsToldOf, IsLongest};
 ghost use Rattle.sql_expr.specs.Grammar as grammar;
 
 use crate::{Cursor, expression};
@@ -65,7 +65,7 @@ fn read_ended(alloc: Global, tokens: &[Token]) -> Result<Option<(Expr, usize)>, 
 
 /// Whether no token comes next that can go on with an expression.
 fn is_ended(tokens: &[Token]) -> bool
-    ensures { result ≡ grammar.is_ended tokens.now }
+    ensures { result ≡ is_ended tokens.now }
 {
     match tokens {
         [Token::Word(word), ..] => !continues_by_word(word.as_str()),
@@ -75,7 +75,7 @@ fn is_ended(tokens: &[Token]) -> bool
 }
 
 fn continues_by_word(word: &str) -> bool
-    ensures { result ≡ grammar.continues_by_word word.now }
+    ensures { result ≡ continues_by_word word.now }
 {
     word == "or"
         || word == "and"
@@ -86,7 +86,7 @@ fn continues_by_word(word: &str) -> bool
 }
 
 fn continues_by_sign(sign: Sign) -> bool
-    ensures { result ≡ grammar.continues_by_sign sign }
+    ensures { result ≡ continues_by_sign sign }
 {
     matches!(
         sign,

@@ -1,11 +1,11 @@
 -- Commands are read exactly where they are spelt.
-use Rattle.std.proofs.Common.{◌≡◌, ◌↔◌, ◌⊎◌, inl, inr, ⊎_elim, ℕ, ◌≤◌, ◌<◌, Bool, true, false, cond, ◌||◌, List, [], ◌∷◌, length, drop, Option, Some, None, codes, refl, sym, ap, subst, ◌∙◌, arith}
+use Rattle.std.proofs.Common.{◌≡◌, ◌↔◌, inl, inr, ℕ, Bool, true, false, cond, ◌||◌, List, [], ◌∷◌, length, Option, Some, None, codes, refl, sym, ap, subst, ◌∙◌, arith}
 use Rattle.std.specs.Prelude.{Result, Ok, Err, MatchResult, nat_lt}
 use Rattle.std.specs.Map.{lookup}
 use Rattle.std.specs.Str.{bytes_eq}
 use Rattle.std.proofs.lemmas.Slice.Eq.{bytes_eq-Decides}
 use Rattle.std.proofs.lemmas.Bool.{ltb-true, ltb-false, lt-ltb, le-ltb}
-use Rattle.q_base.specs.declared.code.Code.TheVariants.{StackDepthExceeded, SyntaxError}
+use Rattle.q_base.specs.declared.code.Code.TheVariants.{StackDepthExceeded}
 use Rattle.q_base.specs.declared.errors.SqlError.{SqlError}
 use Rattle.q_base.specs.declared.errors.Stop.{Stop}
 use Rattle.q_base.specs.declared.errors.Stop.TheVariants.{Sql, NoMemory}
@@ -25,9 +25,9 @@ use Rattle.sql_reader.specs.CommandGrammar.{prepared_command, cursor_command, bl
 use Rattle.sql_reader.specs.CommandGrammar as grammar
 use Rattle.sql_reader_query.specs.Statements as statements
 use Rattle.sql_reader.specs.LineGrammar as line_grammar
-use Rattle.sql_expr.proofs.Heads.{Barred, Head, clear, begins}
-use Rattle.sql_expr.proofs.Agreement.{Agrees, same_value, same_rest}
-use Rattle.sql_reader.proofs.StatementAgreement.{agrees-statement_command, statement_tail}
+use Rattle.sql_expr.proofs.Heads.{Barred, Head, begins}
+use Rattle.sql_expr.proofs.Agreement.{Agrees}
+use Rattle.sql_reader.proofs.StatementAgreement.{agrees-statement_command}
 use Rattle.sql_reader.proofs.PreparedAgreement.{agrees-prepare, agrees-execute, agrees-explain, agrees-deallocate, agrees-discard}
 use Rattle.sql_reader.proofs.CursorAgreement.{agrees-declare}
 use Rattle.sql_reader.proofs.MotionAgreement.{agrees-fetch, agrees-move_cursor, agrees-close}

@@ -1,8 +1,6 @@
 -- Names of relations and columns are read exactly where they are spelt.
-use Rattle.std.proofs.Common.{◌≡◌, ◌⊎◌, inl, inr, ⊎_elim, ℕ, Bool, true, false, List, [], ◌∷◌, Option, Some, None, refl, sym, ap, subst}
+use Rattle.std.proofs.Common.{inl, inr, ℕ, [], ◌∷◌, Option, Some, None, refl}
 use Rattle.sql_tokens.specs.declared.token.Sign.TheVariants as sign
-use Rattle.sql_tree.specs.declared.names.ColumnRef.{ColumnRef}
-use Rattle.sql_tree.specs.declared.names.QName.{QName}
 use Rattle.sql_expr.specs.Reading.{Text, Tokens}
 use Rattle.sql_expr.specs.Lines.{Line, gives, mark}
 use Rattle.sql_expr.specs.Lines as lines
@@ -10,7 +8,7 @@ use Rattle.sql_expr.specs.Grammar as expression
 use Rattle.sql_reader_query.specs.Lists as spec_lists
 use Rattle.sql_reader_query.specs.Names as spec
 use Rattle.sql_reader.specs.NameGrammar as grammar
-use Rattle.sql_expr.proofs.Heads.{Barred, Head}
+use Rattle.sql_expr.proofs.Heads.{Head}
 use Rattle.sql_expr.proofs.Agreement.{Agrees, nothing, bar_sign, agrees-pure, agrees-bind, agrees-same, agrees-sign, agrees-expect_sign}
 use Rattle.sql_expr.proofs.ListAgreement.{agrees-list}
 use Rattle.sql_expr.proofs.ExpressionAgreement.{agrees-name}

@@ -9,10 +9,10 @@ use Rattle.sql_tokens.specs.declared.token.Token.TheVariants as token
 use Rattle.sql_tokens.specs.declared.token.Sign.TheVariants as sign
 use Rattle.sql_tree.specs.declared.command.Command.{Command}
 use Rattle.sql_tree.specs.declared.command.Command.TheVariants as command
-use Rattle.sql_expr.specs.Reading.{Text}
+use Rattle.sql_expr.specs.Texts.{Text}
 use Rattle.sql_expr.specs.Lines.{Line, ◌>>=◌, ◌>>◌, ◌<$>◌, ◌or◌, gives, one, key, mark, maybe, list}
 use Rattle.sql_expr.specs.Grammar.{name}
-use Rattle.sql_reader_session.specs.Settings.{number_setting}
+use Rattle.sql_reader_session.specs.Values.{number_setting}
 use Rattle.sql_reader.specs.QueryGrammar.{numeral}
 
 -- [WORK | TRANSACTION]
@@ -23,20 +23,19 @@ work = maybe (key (codes "work") or key (codes "transaction"))
 abbrev pub savepoint_name : Line Text
 savepoint_name = maybe (key (codes "savepoint")) >> name
 
--- BEGIN [WORK | TRANSACTION]
+-- [WORK | TRANSACTION], behind BEGIN
 unfoldable pub begin : Line Command
 begin = work >> gives command.Begin
 
--- START TRANSACTION
+-- TRANSACTION, behind START
 unfoldable pub start : Line Command
 start = key (codes "transaction") >> gives command.StartTransaction
 
--- (COMMIT | END) [WORK | TRANSACTION]
+-- [WORK | TRANSACTION], behind COMMIT and END
 unfoldable pub commit : Line Command
 commit = work >> gives command.Commit
 
--- ROLLBACK [WORK | TRANSACTION]
--- | ROLLBACK [WORK | TRANSACTION] TO [SAVEPOINT] name
+-- [WORK | TRANSACTION] | [WORK | TRANSACTION] TO [SAVEPOINT] name, behind ROLLBACK
 unfoldable pub rollback : Line Command
 rollback = work >> gives command.Rollback
     or (do
@@ -44,15 +43,15 @@ rollback = work >> gives command.Rollback
       key (codes "to")
       command.RollbackTo <$> savepoint_name)
 
--- ABORT [WORK | TRANSACTION]
+-- [WORK | TRANSACTION], behind ABORT
 unfoldable pub abort : Line Command
 abort = work >> gives command.Rollback
 
--- SAVEPOINT name
+-- name, behind SAVEPOINT
 unfoldable pub savepoint : Line Command
 savepoint = command.Savepoint <$> name
 
--- RELEASE [SAVEPOINT] name
+-- [SAVEPOINT] name, behind RELEASE
 unfoldable pub release : Line Command
 release = command.Release <$> savepoint_name
 
@@ -82,7 +81,7 @@ setting = (λ text. record { text = text; number = false }) <$> setting_text
 abbrev pub set_value : Line SetValue
 set_value = key (codes "default") >> gives value.Default or value.List <$> list setting
 
--- SET [SESSION | LOCAL] name (TO | "=") (DEFAULT | list(setting))
+-- [SESSION | LOCAL] name (TO | "=") (DEFAULT | list(setting)), behind SET
 unfoldable pub set : Line Command
 set = do
   local ← scope
@@ -91,10 +90,10 @@ set = do
   v ← set_value
   gives (command.Set (record { name = n; local = local; value = v }))
 
--- RESET name
+-- name, behind RESET
 unfoldable pub reset : Line Command
 reset = command.Reset <$> name
 
--- SHOW name
+-- name, behind SHOW
 unfoldable pub show : Line Command
 show = command.Show <$> name

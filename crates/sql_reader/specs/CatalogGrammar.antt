@@ -29,10 +29,10 @@ use Rattle.sql_tree.specs.declared.expr.Literal.{Literal}
 use Rattle.sql_tree.specs.declared.expr.Literal.TheVariants as literal
 use Rattle.sql_tree.specs.declared.expr.Numeral.{Numeral}
 use Rattle.sql_tree.specs.declared.statement.Statement.TheVariants as statement
-use Rattle.sql_expr.specs.Reading.{Text}
+use Rattle.sql_expr.specs.Texts.{Text}
 use Rattle.sql_expr.specs.Lines.{Line, ◌>>=◌, ◌>>◌, ◌<$>◌, ◌or◌, nowhere, gives, one, key, mark, maybe, said, many, list}
 use Rattle.sql_expr.specs.Grammar.{name}
-use Rattle.sql_expr.specs.Literals.{literal_of, digits_of}
+use Rattle.sql_expr.specs.Terminals.{literal_of, digits_of}
 use Rattle.sql_reader.specs.NameGrammar.{relation, parenthesized_names}
 use Rattle.sql_reader.specs.QueryGrammar.{select}
 

@@ -13,7 +13,7 @@ use Rattle.sql_tree.specs.declared.statement.Statement.{Statement}
 use Rattle.sql_tree.specs.declared.statement.Statement.TheVariants.{Select, Insert}
 use Rattle.sql_reader_query.specs.declared.changes.Change.{Change}
 use Rattle.sql_reader_query.specs.declared.changes.Change.TheVariants.{Update, Delete}
-use Rattle.sql_reader_query.specs.Changes.{statement_of}
+use Rattle.sql_reader_query.specs.Values.{statement_of}
 use Rattle.sql_expr.specs.Lines.{Line, ◌>>=◌, ◌>>◌, ◌<$>◌, ◌or◌, gives, key, mark, maybe, list}
 use Rattle.sql_expr.specs.Grammar.{name, expression}
 use Rattle.sql_reader.specs.NameGrammar.{relation, parenthesized_names}

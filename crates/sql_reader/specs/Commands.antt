@@ -6,7 +6,7 @@ use Rattle.sql_tokens.specs.declared.token.Token.{Token}
 use Rattle.sql_tokens.specs.declared.token.Token.TheVariants as token
 use Rattle.sql_tree.specs.declared.command.Command.{Command}
 use Rattle.sql_expr.specs.Load.{load_of}
-use Rattle.sql_expr.specs.Reading.{Text, Tokens, Outcome, Parser, refuse}
+use Rattle.sql_expr.specs.Reading.{Text, Outcome, Parser, refuse}
 use Rattle.sql_reader_query.specs.Statements.{statement_command}
 use Rattle.sql_reader_session.specs.Blocks.{begin, start, commit, rollback, abort, savepoint, release}
 use Rattle.sql_reader_session.specs.Cursors.{declare, fetch, move_cursor, close}

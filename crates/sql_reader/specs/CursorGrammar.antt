@@ -14,9 +14,7 @@ use Rattle.sql_expr.specs.Lines.{Line, ◌>>=◌, ◌>>◌, ◌<$>◌, ◌or◌,
 use Rattle.sql_expr.specs.Grammar.{name}
 use Rattle.sql_reader_session.specs.declared.cursors.CursorOption.{CursorOption}
 use Rattle.sql_reader_session.specs.declared.cursors.CursorOption.TheVariants.{Scroll, NoScroll, Insensitive, Asensitive}
-use Rattle.sql_reader_session.specs.Cursors.{no_options, with_option}
-use Rattle.sql_reader_session.specs.Motions.{direction_of}
-use Rattle.sql_reader_session.specs.Numbers.{number_of, signed}
+use Rattle.sql_reader_session.specs.Values.{number_of, signed, no_options, with_option, direction_of}
 use Rattle.sql_reader.specs.QueryGrammar.{select}
 
 -- the number that a token is, at most 2147483647
@@ -45,7 +43,7 @@ hold = key (codes "with") >> (key (codes "hold") >> gives true)
     or key (codes "without") >> (key (codes "hold") >> gives false)
     or gives false
 
--- DECLARE name {SCROLL | NO SCROLL | INSENSITIVE | ASENSITIVE} CURSOR [(WITH | WITHOUT) HOLD] FOR select
+-- name {SCROLL | NO SCROLL | INSENSITIVE | ASENSITIVE} CURSOR [(WITH | WITHOUT) HOLD] FOR select, behind DECLARE
 unfoldable pub declare : Line Command
 declare = do
   cursor ← name
@@ -88,14 +86,14 @@ fetch_tree = do
   cursor ← name
   gives (record { motion = motion; cursor = cursor })
 
--- FETCH [motion] [FROM | IN] name
+-- the same, behind FETCH
 unfoldable pub fetch : Line Command
 fetch = command.Fetch <$> fetch_tree
 
--- MOVE [motion] [FROM | IN] name
+-- the same, behind MOVE
 unfoldable pub move_cursor : Line Command
 move_cursor = command.Move <$> fetch_tree
 
--- CLOSE (ALL | name)
+-- ALL | name, behind CLOSE
 unfoldable pub close : Line Command
 close = key (codes "all") >> gives command.CloseAll or command.Close <$> name

@@ -1,5 +1,5 @@
 -- Texts with the commands that they spell, and texts that spell none.
-use Rattle.std.specs.Prelude.{ℕ, Bool, true, false, List, [], ◌∷◌, Option, Some, None, codes, Ok}
+use Rattle.std.specs.Prelude.{Bool, true, false, List, [], ◌∷◌, Some, None, codes, Ok}
 use Rattle.q_base.specs.declared.settings.SetValue.TheVariants as value
 use Rattle.sql_tokens.specs.declared.token.Token.{Token}
 use Rattle.sql_tokens.specs.Spelling.{TextSpells}

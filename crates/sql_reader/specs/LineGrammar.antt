@@ -5,7 +5,7 @@ use Rattle.sql_tree.specs.declared.command.Command.{Command}
 use Rattle.sql_tree.specs.declared.command.Command.TheVariants as command
 use Rattle.sql_tree.specs.declared.prepared.BindTree.{BindTree}
 use Rattle.sql_tree.specs.declared.prepared.RunTree.{RunTree}
-use Rattle.sql_expr.specs.Reading.{Text}
+use Rattle.sql_expr.specs.Texts.{Text}
 use Rattle.sql_expr.specs.Lines.{Line, ◌>>=◌, ◌>>◌, ◌<$>◌, ◌or◌, gives}
 use Rattle.sql_expr.specs.Grammar.{name}
 use Rattle.sql_reader.specs.CursorGrammar.{count}

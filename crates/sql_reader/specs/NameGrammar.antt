@@ -3,7 +3,7 @@ use Rattle.std.specs.Prelude.{List, Option, Some, None}
 use Rattle.sql_tokens.specs.declared.token.Sign.TheVariants as sign
 use Rattle.sql_tree.specs.declared.names.ColumnRef.{ColumnRef}
 use Rattle.sql_tree.specs.declared.names.QName.{QName}
-use Rattle.sql_expr.specs.Reading.{Text}
+use Rattle.sql_expr.specs.Texts.{Text}
 use Rattle.sql_expr.specs.Lines.{Line, ◌>>=◌, ◌>>◌, ◌<$>◌, ◌or◌, gives, mark, list}
 use Rattle.sql_expr.specs.Grammar.{name}
 

@@ -29,7 +29,7 @@ prepare_tree = do
   s ← statement
   gives (record { name = n; types = types; statement = s })
 
--- PREPARE name ["(" names ")"] AS statement
+-- the same, behind PREPARE
 unfoldable pub prepare : Line Command
 prepare = command.Prepare <$> prepare_tree
 
@@ -40,18 +40,19 @@ execute_tree = do
   found ← any arguments
   gives (record { name = n; arguments = found })
 
--- EXECUTE name ["(" list(expression) ")"]
+-- the same, behind EXECUTE
 unfoldable pub execute : Line Command
 execute = command.Execute <$> execute_tree
 
--- EXPLAIN (statement | execute)
+-- statement | EXECUTE execute_tree, behind EXPLAIN
 unfoldable pub explain : Line Command
 explain = command.Explain <$> statement or key (codes "execute") >> command.ExplainExecute <$> execute_tree
 
--- DEALLOCATE [PREPARE] (ALL | name): as nothing may stand behind the name, PREPARE is the keyword exactly where a name or ALL follows
+-- [PREPARE] (ALL | name), behind DEALLOCATE: as nothing may stand behind the name, PREPARE is the keyword exactly where a name
+-- or ALL follows
 unfoldable pub deallocate : Line Command
 deallocate = maybe (key (codes "prepare")) >> (key (codes "all") >> gives command.DeallocateAll or command.Deallocate <$> name)
 
--- DISCARD (PLANS | TEMP | TEMPORARY)
+-- PLANS | TEMP | TEMPORARY, behind DISCARD
 unfoldable pub discard : Line Command
 discard = key (codes "plans") >> gives command.DiscardPlans or (key (codes "temp") or key (codes "temporary")) >> gives command.DiscardTemp

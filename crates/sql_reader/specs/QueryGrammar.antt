@@ -15,9 +15,9 @@ use Rattle.sql_tree.specs.declared.select.RowCount.{RowCount}
 use Rattle.sql_tree.specs.declared.select.RowCount.TheVariants.{Number, Param, Null}
 use Rattle.sql_tree.specs.declared.select.Select.{Select}
 use Rattle.sql_tree.specs.declared.select.SelectCore.{SelectCore}
-use Rattle.sql_expr.specs.Reading.{Text}
+use Rattle.sql_expr.specs.Texts.{Text}
 use Rattle.sql_expr.specs.Lines.{Line, ◌>>=◌, ◌>>◌, ◌<$>◌, ◌or◌, gives, one, key as keyword, mark, maybe, said, many, list}
-use Rattle.sql_expr.specs.Literals.{digits_of, param_of}
+use Rattle.sql_expr.specs.Terminals.{digits_of, param_of}
 use Rattle.sql_expr.specs.Grammar.{name, expression}
 use Rattle.sql_reader.specs.NameGrammar.{relation, column}
 

@@ -6,3 +6,4 @@ pub mod Names
 pub mod Outputs
 pub mod Query
 pub mod Statements
+pub mod Values

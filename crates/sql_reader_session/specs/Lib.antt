@@ -6,3 +6,4 @@ pub mod Motions
 pub mod Numbers
 pub mod Prepared
 pub mod Settings
+pub mod Values

@@ -1,7 +1,7 @@
 use Rattle.std.proofs.Common.{◌≡◌, ◌-◌, ◌+◌, length, take, drop, ap, sym, subst, ◌∙◌, arith}
 use Rattle.std.proofs.lemmas.Grind.{common_steps}
 use Rattle.sql_expr.specs.Expressions as spec
-use Rattle.sql_expr.specs.Grammar.{is_ended}
+use Rattle.sql_expr.specs.Ended.{is_ended}
 use Rattle.sql_expr.specs.Ended.{where_ended, IsToldOf}
 use Rattle.sql_expr.proofs.Longest.{told-longest, told-none, whole-longest, whole-none, below-token, below-again, none-below}
 use Rattle.sql_expr.proofs.slice.longest.Goals.{then-not-is_ended+in_ok-read-2+in_default-2, else-not-is_ended}

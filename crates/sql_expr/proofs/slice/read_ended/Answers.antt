@@ -1,7 +1,7 @@
 use Rattle.std.proofs.Common.{◌≡◌, ◌-◌, length, take, drop, ap, sym, ◌∙◌, arith}
 use Rattle.std.proofs.lemmas.Grind.{common_steps}
 use Rattle.sql_expr.specs.Expressions.{expression}
-use Rattle.sql_expr.specs.Grammar.{is_ended}
+use Rattle.sql_expr.specs.Ended.{is_ended}
 use Rattle.sql_expr.proofs.Leaving.{read-place}
 use Rattle.sql_expr.proofs.Longest.{told}
 use Rattle.sql_expr.proofs.slice.read_ended.Goals as goal
