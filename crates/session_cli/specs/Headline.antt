@@ -1,7 +1,8 @@
 -- What a run of the program leaves: the script's commands were answered as by a run of the session machine.
-use Rattle.std.specs.Prelude.{◌≡◌, ◌⊎◌, ◌≤◌, ◌<◌, ℕ, Bool, true, false, Option, Some, List, [], ◌∷◌, ◌++◌, length, take, All}
+use Rattle.std.specs.Prelude.{◌≡◌, ◌⊎◌, ◌≤◌, ◌<◌, ℕ, Bool, true, false, Option, None, Some, IfSome, List, [], ◌∷◌, ◌++◌, length, take, All}
 use Rattle.std.specs.List.{flat_map}
 use Rattle.std.specs.Io.KnownBytes.{Appends}
+use Rattle.q_io.specs.Faults.{Rose}
 use Rattle.sql_tokens.specs.Script.{Scan, Verdict, Over, NotYet, NotText, TooLong, scan}
 use Rattle.session_core.specs.declared.session.Done.{Done}
 use Rattle.session_core.specs.declared.session.Done.TheVariants as done
@@ -10,6 +11,7 @@ use Rattle.session_core.specs.State.{State, empty_state}
 use Rattle.session_cli.specs.declared.options.Options.{Options}
 use Rattle.session_cli.specs.declared.status.Status.{Status}
 use Rattle.session_cli.specs.declared.status.Status.TheVariants as status
+use Rattle.session_cli.specs.Words.{options_of}
 
 -- how a command ended, and its output
 abbrev pub Answer : Type 0
@@ -104,3 +106,22 @@ status_of NotYet = status.Done
 abbrev pub IsComplete : Status → List ℕ → Type 0
 IsComplete result script =
     (result ≡ status.NoMemory) ⊎ ((result ≡ status.Stopped) ⊎ (result ≡ status_of (scan script true).verdict))
+
+-- what clauses see of a source or a sink: its bytes, where it tells them, and its count of faults
+pub record Seen : Type 0 where
+  pub bytes : Option (List ℕ)
+  pub faults : ℕ
+
+abbrev pub seen : {A : Type 0} → (A → Option (List ℕ)) → (A → ℕ) → A → Seen
+seen bytes faults object = record { bytes = bytes object; faults = faults object }
+
+-- all of that of one call with these words, between what is seen of the source and of the sink before and after
+pub record IsSession (words : List (List ℕ)) (source source2 sink sink2 : Seen) (result : Status) : Type 0 where
+  pub outcome : IfSome (options_of words) (λ options. IfSome source.bytes (λ script. Outcome result options script source2.bytes sink.bytes sink2.bytes))
+  pub usage : result ≡ status.Usage → options_of words ≡ None
+  pub refused : options_of words ≡ None → (result ≡ status.Usage) ⊎ (result ≡ status.NoMemory)
+  pub read_fault : result ≡ status.ReadFault → Rose source.faults source2.faults
+  pub write_fault : result ≡ status.WriteFault → Rose sink.faults sink2.faults
+  pub complete :
+      IfSome (options_of words) (λ options. IfSome source.bytes (λ script.
+      (Rose source.faults source2.faults → ⊥) → (Rose sink.faults sink2.faults → ⊥) → IsComplete result script))

@@ -2,7 +2,7 @@ ghost use Rattle.std.specs.Prelude.{◌≡◌, ◌⊎◌, ◌≤◌, map, IfSome
 ghost use Rattle.std.specs.String.{string_bytes};
 ghost use Rattle.q_io.specs.Faults.{Rose};
 ghost use Rattle.session_cli.specs.declared.status.Status.TheVariants as status;
-ghost use Rattle.session_cli.specs.Headline.{Outcome, IsComplete};
+ghost use Rattle.session_cli.specs.Headline.{Outcome, IsComplete, IsSession, seen};
 ghost use Rattle.session_cli.specs.Words.{options_of};
 
 use crate::options::{WordsError, read_words};
@@ -41,13 +41,16 @@ pub fn session_main<S: Source, K: Sink, L: Ledger>(
     }
 }
 
-/// [`session_main`] with counters of its own.
+/// [`session_main`] with counters of its own: `session` has all that its clauses say, as one fact.
 pub fn start<S: Source, K: Sink>(
     alloc: Global,
     words: &[String],
     source: &mut S,
     sink: &mut K,
-) -> Status {
+) -> Status
+    ensures session { IsSession (map string_bytes words.now) (seen S.left S.faults source.old) (seen S.left S.faults source.new) (seen K.written K.faults sink.old) (seen K.written K.faults sink.new) result }
+    ensures untouched { options_of (map string_bytes words.now) ≡ None → (source.new ≡ source.old) × (sink.new ≡ sink.old) }
+{
     counted::<S, K, Brand>(alloc, words, source, sink, Blank::new(3))
 }
 
@@ -61,6 +64,8 @@ fn counted<S: Source, K: Sink, L: Ledger>(
     requires name { blank.name ≡ L.name }
     requires parts { blank.parts ≡ L.parts }
     requires three { 3 ≤ blank.parts }
+    ensures session { IsSession (map string_bytes words.now) (seen S.left S.faults source.old) (seen S.left S.faults source.new) (seen K.written K.faults sink.old) (seen K.written K.faults sink.new) result }
+    ensures untouched { options_of (map string_bytes words.now) ≡ None → (source.new ≡ source.old) × (sink.new ≡ sink.old) }
 {
     let mut work = Work::<L>::open(blank);
     session_main(alloc, words, source, sink, &mut work)
