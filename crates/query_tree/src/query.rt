@@ -56,6 +56,7 @@ pub type AggregateList = ListOf<Aggregate>;
 #[derive(Drop)]
 pub struct SortKey {
     pub target: Target,
+    /// The greatest value comes first.
     pub desc: bool,
     /// Nulls come before all other values, and else behind them. By default they do exactly where the key
     /// descends (PostgreSQL's manual, "Sorting Rows (ORDER BY)").

@@ -1,13 +1,12 @@
 use Rattle.std.specs.Prelude.{◌≡◌, ℕ, List, [], ◌∷◌, Result, Ok, Err}
 use Rattle.q_base.specs.declared.errors.SqlError.{SqlError}
-use Rattle.q_base.specs.declared.settings.Mode.{Mode}
 use Rattle.sql_tokens.specs.declared.token.Token.{Token}
 use Rattle.sql_tokens.specs.Spelling.{TextSpells}
 use Rattle.sql_tree.specs.declared.command.Command.{Command}
 use Rattle.sql_tree.specs.declared.command.Command.TheVariants.{Statement, Prepare, Execute}
 use Rattle.sql_reader.specs.CommandGrammar.{IsRead}
 use Rattle.session_core.specs.declared.session.Done.{Done}
-use Rattle.session_core.specs.State.{State, empty_state, Refuses}
+use Rattle.session_core.specs.State.{State, Refuses}
 use Rattle.session_core.specs.Prepared.{Selects, Prepares, Executes, Unbuilt}
 
 -- the command leads from state to state2 with that end and output; one case a command
@@ -38,7 +37,3 @@ Leads state (text ∷ texts) (answer ∷ answers) state2 =
     (middle : State) × Step state text answer.0 answer.1 middle × Leads middle texts answers state2
 Leads state [] (answer ∷ answers) state2 = ⊥
 Leads state (text ∷ texts) [] state2 = ⊥
-
--- a run of the machine from its empty state: the texts with their ends and outputs
-abbrev pub Runs : Mode → List (List ℕ) → List (Done × List ℕ) → Type 0
-Runs mode texts answers = (state : State) × Leads (empty_state mode) texts answers state
