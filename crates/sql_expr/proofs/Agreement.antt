@@ -1,7 +1,8 @@
 -- A reading function agrees with a line of the grammar: what it reads is spelt so, and what is spelt so is read, whatever
 -- follows that can't go on with it.
-use Rattle.std.proofs.Common.{◌≡◌, ◌⊎◌, inl, inr, ⊎_elim, ℕ, suc, ◌+◌, ◌≤◌, Bool, true, false, cond, not, ◌&&◌, ◌||◌, List, [], ◌∷◌, ◌++◌, length, drop, Option, Some, None, refl, sym, ap, subst, ◌∙◌, arith}
+use Rattle.std.proofs.Common.{◌≡◌, ◌⊎◌, inl, inr, ⊎_elim, ℕ, suc, ◌+◌, ◌≤◌, Bool, true, false, cond, not, ◌&&◌, ◌||◌, List, [], ◌∷◌, ◌++◌, length, drop, Option, Some, None, codes, refl, sym, ap, subst, ◌∙◌, arith}
 use Rattle.std.specs.Prelude.{is_some, min}
+use Prim.Native.String.{String}
 use Rattle.std.specs.List.{list_any}
 use Rattle.std.specs.Str.{bytes_eq}
 use Rattle.std.proofs.lemmas.Grind.{common_steps}
@@ -12,7 +13,7 @@ use Rattle.sql_tokens.specs.declared.token.Token.TheVariants as token
 use Rattle.sql_tokens.specs.declared.token.Sign.{Sign}
 use Rattle.sql_tokens.specs.contracts.token.Sign.{the_type}
 use Rattle.sql_expr.specs.Reading.{Text, Tokens, Outcome, Parser, and_then, ◌>>=◌, pure, refuse, taken, taken_first, required, behind, eat_word, eat_sign, expect_word, expect_sign, sees_word, sees_sign, same_sign}
-use Rattle.sql_expr.specs.Lines.{Line, nowhere, gives, one, unless, stands_for, key, mark}
+use Rattle.sql_expr.specs.Lines.{Line, nowhere, gives, unless, word as a_word, mark}
 use Rattle.sql_expr.specs.Lines as lines
 use Rattle.sql_expr.proofs.Heads.{Barred, Head, bars, clear, is, begins, all_avoid, begins-clear, clear-begins, begins-left, begins-right, not-true}
 pub use Rattle.sql_expr.proofs.Leaving.{Parts, bind_some, same_rest}
@@ -202,7 +203,7 @@ pub record Tests (sees : Tokens → Bool) (L : Line (Unit {0})) (head : Head) (b
 begins-one : (head : Head) (t : Token) (ts : Tokens) → is head t ≡ true → begins (head ∷ []) (t ∷ ts) ≡ true
 begins-one head t ts e = ap (λ b. b || false) e
 
-pub tests-word : (w : Text) → Tests (sees_word w) (key w) (Head.word w) (bar_word w)
+pub tests-word : (w : Text) → Tests (sees_word w) (a_word w) (Head.word w) (bar_word w)
 tests-word w = record {
   seen = λ ts e. word-seen w ts e;
   known = λ ts u us spelt. (
@@ -269,7 +270,7 @@ agrees-test {S = S} {B = B} {sees = sees} {L = L} {head = head} {bar = bar} {P =
 -- the same of a word and of a sign
 pub agrees-word : {S : Type 0} {n : ℕ} {B : Type 0} {p q : Parser B} {P Q : Line B} {k m : ℕ} {ahead heads : List Head} {tail : Barred} (w : Text)
     → Agrees S n p P k ahead tail → Agrees S n q Q m heads tail → all_avoid (bar_word w) heads ≡ true
-    → Agrees S n (eat_word w >>= (λ found. cond found p q)) (lines.◌or◌ (lines.◌>>◌ (key w) P) Q) (min (suc k) m) (Head.word w ∷ heads) tail
+    → Agrees S n (eat_word w >>= (λ found. cond found p q)) (lines.◌or◌ (lines.◌>>◌ (a_word w) P) Q) (min (suc k) m) (Head.word w ∷ heads) tail
 agrees-word {p = p} {q = q} w found_so not_so apart = agrees-test (λ found. cond found p q) (omega arith) (tests-word w) found_so not_so apart
 
 pub agrees-sign : {S : Type 0} {n : ℕ} {B : Type 0} {p q : Parser B} {P Q : Line B} {k m : ℕ} {ahead heads : List Head} {tail : Barred} (s : Sign)
@@ -280,7 +281,7 @@ agrees-sign {p = p} {q = q} s found_so not_so apart = agrees-test (λ found. con
 -- the same where what stands behind the token may be a token shorter
 pub agrees-word-deeper : {S : Type 0} {n : ℕ} {B : Type 0} {p q : Parser B} {P Q : Line B} {k m : ℕ} {ahead heads : List Head} {tail : Barred} (w : Text)
     → Agrees S n p P k ahead tail → Agrees S (suc n) q Q m heads tail → all_avoid (bar_word w) heads ≡ true
-    → Agrees S (suc n) (eat_word w >>= (λ found. cond found p q)) (lines.◌or◌ (lines.◌>>◌ (key w) P) Q) (min (suc k) m) (Head.word w ∷ heads) tail
+    → Agrees S (suc n) (eat_word w >>= (λ found. cond found p q)) (lines.◌or◌ (lines.◌>>◌ (a_word w) P) Q) (min (suc k) m) (Head.word w ∷ heads) tail
 agrees-word-deeper {p = p} {q = q} w found_so not_so apart = agrees-test (λ found. cond found p q) (omega arith) (tests-word w) found_so not_so apart
 
 pub agrees-sign-deeper : {S : Type 0} {n : ℕ} {B : Type 0} {p q : Parser B} {P Q : Line B} {k m : ℕ} {ahead heads : List Head} {tail : Barred} (s : Sign)
@@ -307,7 +308,7 @@ agrees-expect {S = S} {sees = sees} {L = L} test = record {
     sound-by ts u us false q e =
         let read = subst (λ x. cond {A = Parser (Unit {0})} x (pure tt) refuse (behind x ts) ≡ Some (u, us)) q e in cc
 
-pub agrees-expect_word : {S : Type 0} {n : ℕ} (w : Text) → Agrees S n (expect_word w) (key w) 1 (Head.word w ∷ []) nothing
+pub agrees-expect_word : {S : Type 0} {n : ℕ} (w : Text) → Agrees S n (expect_word w) (a_word w) 1 (Head.word w ∷ []) nothing
 agrees-expect_word w = agrees-expect (tests-word w)
 
 pub agrees-expect_sign : {S : Type 0} {n : ℕ} (s : Sign) → Agrees S n (expect_sign s) (mark s) 1 (Head.sign s ∷ []) nothing
@@ -338,19 +339,35 @@ agrees-behind {p = p} {f = f} {k = k} {m = m} {inner = inner} {stop = stop} firs
 
 -- ---- a token that stands for a value
 
--- which tokens do
-pub record Stands {A : Type 0} (value_of : Token → Option A) (heads : List Head) (bar : Barred) : Type 0 where
+abbrev pub one : {A : Type 0} → (Token → Option A) → Line A
+one value_of ts a us = (t : Token) × (ts ≡ t ∷ us) × (value_of t ≡ Some a)
+
+abbrev pub stands_for : {A : Type 0} → (Token → Option A) → Tokens → Bool
+stands_for value_of [] = false
+stands_for value_of (t ∷ ts) = is_some (value_of t)
+
+-- which tokens do, and the line that spells them
+pub record Stands {A : Type 0} (value_of : Token → Option A) (T : Line A) (heads : List Head) (bar : Barred) : Type 0 where
   pub shows : (t : Token) (a : A) → value_of t ≡ Some a → list_any (λ head. is head t) heads ≡ true
   pub none : (t : Token) → bars bar t ≡ false → value_of t ≡ None
+  pub there : (ts : Tokens) (a : A) (us : Tokens) → one value_of ts a us → T ts a us
+  pub back : (ts : Tokens) (a : A) (us : Tokens) → T ts a us → one value_of ts a us
 
 pub taken-some : {A : Type 0} (value_of : Token → Option A) (t : Token) (ts : Tokens) (a : A) → value_of t ≡ Some a → taken value_of (t ∷ ts) ≡ Some (Some a, ts)
 unfolding taken
 taken-some value_of t ts a e = ap (λ o. taken_first o t ts) e
 
-pub taken-none : {A : Type 0} (value_of : Token → Option A) (heads : List Head) (bar : Barred) → Stands value_of heads bar → (ts : Tokens) → clear bar ts ≡ true → taken value_of ts ≡ Some (None, ts)
+pub taken-one : {A : Type 0} (value_of : Token → Option A) (ts : Tokens) (a : A) (us : Tokens) → one value_of ts a us → taken value_of ts ≡ Some (Some a, us)
+taken-one value_of ts a us (t, e, v) = ap (taken value_of) e ∙ taken-some value_of t us a v
+
+pub taken-nothing : {A : Type 0} (value_of : Token → Option A) (ts : Tokens) → stands_for value_of ts ≡ false → taken value_of ts ≡ Some (None, ts)
 unfolding taken
-taken-none value_of heads bar stands [] c = refl
-taken-none value_of heads bar stands (t ∷ ts) c = ap (λ o. taken_first o t ts) (stands.none t (not-true _ c))
+taken-nothing value_of [] none = refl
+taken-nothing {A = A} value_of (t ∷ ts) none = by (value_of t) none
+  where
+    by : (o : Option A) → is_some o ≡ false → taken_first o t ts ≡ Some (None, t ∷ ts)
+    by (Some a) e = cc
+    by None e = refl
 
 -- what taking gives: the value, or nothing with all tokens still there
 pub taken-cases : {A : Type 0} (value_of : Token → Option A) (ts : Tokens) (o : Option A) (us : Tokens) → taken value_of ts ≡ Some (o, us)
@@ -368,44 +385,94 @@ taken-cases {A = A} value_of (t ∷ ts) o us e = by (value_of t) refl e
         let read = subst (λ f. taken_first f t ts ≡ Some (o, us)) q e in
         inr (same_value None o (t ∷ ts) us read, same_rest None o (t ∷ ts) us read, ap is_some q)
 
+module _ {A : Type 0} {value_of : Token → Option A} {T : Line A} {first : List Head} {bar : Barred} (stands : Stands value_of T first bar) where
+  pub none-barred : (ts : Tokens) → clear bar ts ≡ true → stands_for value_of ts ≡ false
+  none-barred [] c = refl
+  none-barred (t ∷ ts) c = ap is_some (stands.none t (not-true _ c))
+
+  begun : (ts : Tokens) (a : A) (us : Tokens) → T ts a us → begins first ts ≡ true
+  begun ts a us spelt = let here = stands.back ts a us spelt in subst (λ vs. begins first vs ≡ true) (sym here.1) (stands.shows here.0 a here.2)
+
+  shorter-one : (ts : Tokens) (a : A) (us : Tokens) → T ts a us → 1 + length us ≤ length ts
+  shorter-one ts a us spelt = let same = ap length (stands.back ts a us spelt).1 in omega (arith, same)
+
+  pub not-spelt : (ts : Tokens) → stands_for value_of ts ≡ false → (a : A) (vs : Tokens) → ¬ T ts a vs
+  not-spelt ts none a vs spelt = let here = stands.back ts a vs spelt in let found = sym none ∙ (ap (stands_for value_of) here.1 ∙ ap is_some here.2) in cc
+
+  pub not-standing : (ts : Tokens) → ((a : A) (vs : Tokens) → ¬ T ts a vs) → stands_for value_of ts ≡ false
+  not-standing [] none = refl
+  not-standing (t ∷ ts) none = by (value_of t) refl
+    where
+      by : (o : Option A) → value_of t ≡ o → is_some (value_of t) ≡ false
+      by (Some a) q = absurd (none a ts (stands.there (t ∷ ts) a ts (t, refl, q)))
+      by None q = ap is_some q
+
 -- Such a token is read where it comes next; else the other line is spelt.
-pub agrees-taken : {S : Type 0} {n most : ℕ} {A B : Type 0} {value_of : Token → Option A} {first : List Head} {bar : Barred} {P : A → Line B} {Q : Line B} {k m : ℕ} {ahead heads : List Head} {tail : Barred} (h : Option A → Parser B)
-    → most ≤ suc n → Stands value_of first bar → ((a : A) → Agrees S n (h (Some a)) (P a) k ahead tail) → Agrees S most (h None) Q m heads tail → all_avoid bar heads ≡ true
-    → Agrees S most (taken value_of >>= h) (lines.◌or◌ (lines.◌>>=◌ (one value_of) P) Q) (min (suc k) m) (first ++ heads) tail
-agrees-taken {S = S} {A = A} {B = B} {value_of = value_of} {first = first} {bar = bar} {P = P} {Q = Q} {k = k} {m = m} {heads = heads} h room stands found_so not_so apart = record {
+pub agrees-taken : {S : Type 0} {n most : ℕ} {A B : Type 0} {value_of : Token → Option A} {T : Line A} {first : List Head} {bar : Barred} {P : A → Line B} {Q : Line B} {k m : ℕ} {ahead heads : List Head} {tail : Barred} (h : Option A → Parser B)
+    → most ≤ suc n → Stands value_of T first bar → ((a : A) → Agrees S n (h (Some a)) (P a) k ahead tail) → Agrees S most (h None) Q m heads tail → all_avoid bar heads ≡ true
+    → Agrees S most (taken value_of >>= h) (lines.◌or◌ (lines.◌>>=◌ T P) Q) (min (suc k) m) (first ++ heads) tail
+agrees-taken {value_of = value_of} {first = first} {bar = bar} {k = k} {m = m} {heads = heads} h room stands found_so not_so apart = record {
   sound = λ s ts b us e.
       let parts = bind_some (taken value_of ts) h b us e in
       ⊎_elim
-      (λ some. inl (some.0, parts.middle, some.2, (found_so some.0).sound s parts.middle b us (ap (λ o. h o parts.middle) (sym some.1) ∙ parts.ended)))
+      (λ some. inl (some.0, parts.middle, stands.there ts some.0 parts.middle some.2, (found_so some.0).sound s parts.middle b us (ap (λ o. h o parts.middle) (sym some.1) ∙ parts.ended)))
       (λ none. inr (not_so.sound s ts b us (ap (h None) (sym none.1) ∙ (ap (λ o. h o parts.middle) (sym none.0) ∙ parts.ended))))
       (taken-cases value_of ts parts.a parts.middle parts.begun);
   complete = λ ts b us within spelt c. ⊎_elim
       (λ left.
-      let here = left.2 in
-      let shorter = ap length here.1 in
-      read_then h (Some left.0) left.1 (ap (taken value_of) here.1 ∙ taken-some value_of here.0 left.1 left.0 here.2) ((found_so left.0).complete left.1 b us (omega arith) left.3 c))
+      let shorter = shorter-one stands ts left.0 left.1 left.2 in
+      read_then h (Some left.0) left.1 (taken-one value_of ts left.0 left.1 (stands.back ts left.0 left.1 left.2)) ((found_so left.0).complete left.1 b us (omega arith) left.3 c))
       (λ right.
-      read_then h None ts (taken-none value_of first bar stands ts (begins-clear bar heads ts apart (not_so.starts ts b us right c))) (not_so.complete ts b us within right c))
+      read_then h None ts (taken-nothing value_of ts (none-barred stands ts (begins-clear bar heads ts apart (not_so.starts ts b us right c)))) (not_so.complete ts b us within right c))
       spelt;
   starts = λ ts b us spelt c. ⊎_elim
-      (λ left.
-      let here = left.2 in
-      begins-left first heads ts (subst (λ vs. begins first vs ≡ true) (sym here.1) (stands.shows here.0 left.0 here.2)))
+      (λ left. begins-left first heads ts (begun stands ts left.0 left.1 left.2))
       (λ right. begins-right first heads ts (not_so.starts ts b us right c))
       spelt;
   takes = λ ts b us spelt. ⊎_elim
       (λ left.
-      let shorter = ap length left.2.1 in
+      let shorter = shorter-one stands ts left.0 left.1 left.2 in
       let more = (found_so left.0).takes left.1 b us left.3 in
       let least = min-left (suc k) m in omega arith)
       (λ right. let more = not_so.takes ts b us right in let least = min-right (suc k) m in omega arith)
       spelt;
 }
 
+-- The same where the line itself says that no such token comes next.
+pub agrees-unless : {S : Type 0} {n most : ℕ} {A B : Type 0} {value_of : Token → Option A} {T : Line A} {first : List Head} {bar : Barred} {P : A → Line B} {Q : Line B} {k m : ℕ} {ahead heads : List Head} {tail : Barred} (h : Option A → Parser B)
+    → most ≤ suc n → Stands value_of T first bar → ((a : A) → Agrees S n (h (Some a)) (P a) k ahead tail) → Agrees S most (h None) Q m heads tail
+    → Agrees S most (taken value_of >>= h) (lines.◌or◌ (lines.◌>>=◌ T P) (lines.◌>>◌ (unless T) Q)) (min (suc k) m) (first ++ heads) tail
+agrees-unless {value_of = value_of} {first = first} {Q = Q} {k = k} {m = m} {heads = heads} h room stands found_so not_so = record {
+  sound = λ s ts b us e.
+      let parts = bind_some (taken value_of ts) h b us e in
+      ⊎_elim
+      (λ some. inl (some.0, parts.middle, stands.there ts some.0 parts.middle some.2, (found_so some.0).sound s parts.middle b us (ap (λ o. h o parts.middle) (sym some.1) ∙ parts.ended)))
+      (λ none. inr (tt, ts, (refl, not-spelt stands ts none.2), not_so.sound s ts b us (ap (h None) (sym none.1) ∙ (ap (λ o. h o parts.middle) (sym none.0) ∙ parts.ended))))
+      (taken-cases value_of ts parts.a parts.middle parts.begun);
+  complete = λ ts b us within spelt c. ⊎_elim
+      (λ left.
+      let shorter = shorter-one stands ts left.0 left.1 left.2 in
+      read_then h (Some left.0) left.1 (taken-one value_of ts left.0 left.1 (stands.back ts left.0 left.1 left.2)) ((found_so left.0).complete left.1 b us (omega arith) left.3 c))
+      (λ right.
+      read_then h None ts (taken-nothing value_of ts (not-standing stands ts right.2.1)) (not_so.complete ts b us within (subst (λ vs. Q vs b us) right.2.0 right.3) c))
+      spelt;
+  starts = λ ts b us spelt c. ⊎_elim
+      (λ left. begins-left first heads ts (begun stands ts left.0 left.1 left.2))
+      (λ right. begins-right first heads ts (not_so.starts ts b us (subst (λ vs. Q vs b us) right.2.0 right.3) c))
+      spelt;
+  takes = λ ts b us spelt. ⊎_elim
+      (λ left.
+      let shorter = shorter-one stands ts left.0 left.1 left.2 in
+      let more = (found_so left.0).takes left.1 b us left.3 in
+      let least = min-left (suc k) m in omega arith)
+      (λ right. let more = not_so.takes ts b us (subst (λ vs. Q vs b us) right.2.0 right.3) in let least = min-right (suc k) m in omega arith)
+      spelt;
+}
+
 -- the token has to come next
-pub agrees-one : {S : Type 0} {n : ℕ} {A : Type 0} {value_of : Token → Option A} {heads : List Head} {bar : Barred}
-    → Stands value_of heads bar → Agrees S n (taken value_of >>= required) (one value_of) 1 heads nothing
-agrees-one {A = A} {value_of = value_of} {heads = heads} stands = record {
+pub agrees-one : {S : Type 0} {n : ℕ} {A : Type 0} {value_of : Token → Option A} {T : Line A} {heads : List Head} {bar : Barred}
+    → Stands value_of T heads bar → Agrees S n (taken value_of >>= required) T 1 heads nothing
+agrees-one {A = A} {value_of = value_of} {T = T} {heads = heads} stands = record {
   sound = λ s ts a us e.
       let parts = bind_some (taken value_of ts) required a us e in
       ⊎_elim
@@ -413,14 +480,15 @@ agrees-one {A = A} {value_of = value_of} {heads = heads} stands = record {
       let read = ap (λ o. required o parts.middle) (sym some.1) ∙ parts.ended in
       let value = same_value some.0 a parts.middle us read in
       let rest = same_rest some.0 a parts.middle us read in
-      subst (λ vs. one value_of ts a vs) (sym rest) (subst (λ v. one value_of ts v parts.middle) (sym value) some.2))
+      stands.there ts a us (subst (λ vs. one value_of ts a vs) (sym rest) (subst (λ v. one value_of ts v parts.middle) (sym value) some.2)))
       (λ none. let read = ap (λ o. required o parts.middle) (sym none.0) ∙ parts.ended in cc)
       (taken-cases value_of ts parts.a parts.middle parts.begun);
-  complete = λ ts a us within spelt c. read_then required (Some a) us (ap (taken value_of) spelt.1 ∙ taken-some value_of spelt.0 us a spelt.2) refl;
-  starts = λ ts a us spelt c. subst (λ vs. begins heads vs ≡ true) (sym spelt.1) (stands.shows spelt.0 a spelt.2);
-  takes = λ ts a us spelt. let shorter = ap length spelt.1 in omega arith;
+  complete = λ ts a us within spelt c. read_then required (Some a) us (taken-one value_of ts a us (stands.back ts a us spelt)) refl;
+  starts = λ ts a us spelt c. begun stands ts a us spelt;
+  takes = λ ts a us spelt. shorter-one stands ts a us spelt;
 }
 
 -- a keyword that may be left out, and whether it is there
-pub agrees-said : {S : Type 0} {n : ℕ} (w : Text) → Agrees S n (eat_word w) (lines.said w) 0 (Head.word w ∷ Head.others (bar_word w) ∷ []) (bar_word w)
-agrees-said {S = S} {n = n} w = agrees-test pure (omega arith) (tests-word w) (agrees-pure {S = S} {n = n} true (bar_word w)) (agrees-pure {S = S} {n = n} false (bar_word w)) (ap (λ b. (((b || false) && true) && true) && true) ((bytes_eq-Decides w w).1 refl))
+pub agrees-said : {S : Type 0} {n : ℕ} (keyword : String) → Agrees S n (eat_word (codes keyword)) (lines.said keyword) 0 (Head.word (codes keyword) ∷ Head.others (bar_word (codes keyword)) ∷ []) (bar_word (codes keyword))
+agrees-said {S = S} {n = n} keyword = let w = codes keyword in
+    agrees-test pure (omega arith) (tests-word w) (agrees-pure {S = S} {n = n} true (bar_word w)) (agrees-pure {S = S} {n = n} false (bar_word w)) (ap (λ b. (((b || false) && true) && true) && true) ((bytes_eq-Decides w w).1 refl))

@@ -9,19 +9,18 @@ use Rattle.sql_tree.specs.declared.expr.Expr.TheVariants as e
 use Rattle.sql_expr.specs.declared.grammar.Level.{Level}
 use Rattle.sql_expr.specs.declared.grammar.Level.TheVariants.{Whole, Negated, Signed}
 use Rattle.sql_expr.specs.Reading.{Text, Tokens, Parser, ◌>>=◌, pure, refuse, taken, taken_first, eat_word, goes_on}
-use Rattle.sql_expr.specs.Literals.{digits_of}
-use Rattle.sql_expr.specs.Names.{is_reserved}
+use Rattle.sql_expr.specs.Reserved.{is_reserved}
 use Rattle.sql_expr.specs.Names as names
 use Rattle.sql_expr.specs.Expressions as spec
-use Rattle.sql_expr.specs.Lines.{Line, nowhere, gives, one, unless, stands_for, key, mark}
+use Rattle.sql_expr.specs.Lines.{Line, nowhere, gives, unless, word as a_word, mark, name, number, parameter}
 use Rattle.sql_expr.specs.Lines as lines
 use Rattle.sql_expr.specs.Ended.{is_ended}
 use Rattle.sql_expr.specs.Grammar as grammar
 use Rattle.sql_expr.proofs.Heads.{Barred, Head, clear, has_word, begins, begins-left, begins-right}
-use Rattle.sql_expr.proofs.Agreement.{Agrees, Stands, nothing, bind_some, read_then, taken-cases, taken-some, tests-word, agrees-pure, agrees-refuse, agrees-bind, agrees-same, agrees-wider, agrees-fewer, agrees-test, agrees-word, agrees-sign, agrees-word-deeper, agrees-sign-deeper, agrees-expect_word, agrees-expect_sign, agrees-behind, agrees-said, agrees-taken, agrees-one}
+use Rattle.sql_expr.proofs.Agreement.{Agrees, nothing, tests-word, agrees-pure, agrees-refuse, agrees-bind, agrees-same, agrees-wider, agrees-fewer, agrees-test, agrees-word, agrees-sign, agrees-word-deeper, agrees-sign-deeper, agrees-expect_word, agrees-expect_sign, agrees-behind, agrees-said, agrees-taken, agrees-unless, agrees-one}
 use Rattle.sql_expr.proofs.ListAgreement.{agrees-list}
 use Rattle.sql_expr.proofs.OperandAgreement.{agrees-operands, agrees-chain}
-use Rattle.sql_expr.proofs.TokenKinds.{stands-name, stands-number, stands-constant, stands-comparison, stands-additive, stands-multiplicative, constant_heads}
+use Rattle.sql_expr.proofs.TokenKinds.{stands-name, stands-number, stands-constant, stands-comparison, stands-additive, stands-multiplicative, constant, constant_heads}
 
 -- the tokens with which an expression begins
 abbrev pub expression_heads : List Head
@@ -70,50 +69,8 @@ list_tail = record operators { signs = sign.Comma ∷ operators.signs }
 abbrev signed_heads : List Head
 signed_heads = Head.sign sign.Minus ∷ Head.sign sign.LeftParen ∷ constant_heads ++ Head.name ∷ []
 
-pub agrees-name : {S : Type 0} {n : ℕ} → Agrees S n names.name grammar.name 1 (Head.name ∷ []) nothing
+pub agrees-name : {S : Type 0} {n : ℕ} → Agrees S n names.name name 1 (Head.name ∷ []) nothing
 agrees-name = agrees-one stands-name
-
-taken_first-none : {A : Type 0} (o : Option A) (t : Token) (ts : Tokens) → is_some o ≡ false → taken_first o t ts ≡ Some (None, t ∷ ts)
-taken_first-none (Some a) t ts q = cc
-taken_first-none None t ts q = refl
-
-no-token : {A : Type 0} (value_of : Token → Option A) (ts : Tokens) → stands_for value_of ts ≡ false → taken value_of ts ≡ Some (None, ts)
-unfolding taken
-no-token value_of [] e = refl
-no-token value_of (t ∷ ts) e = taken_first-none (value_of t) t ts e
-
--- A token that stands for the value is read as that; the other line is spelt where no such token comes next.
-agrees-unless : {S : Type 0} {n most : ℕ} {A B : Type 0} {value_of : Token → Option A} {first : List Head} {bar : Barred} {P : A → Line B} {Q : Line B} {k m : ℕ} {ahead heads : List Head} {tail : Barred} (h : Option A → Parser B)
-    → most ≤ suc n → Stands value_of first bar → ((a : A) → Agrees S n (h (Some a)) (P a) k ahead tail) → Agrees S most (h None) Q (suc m) heads tail
-    → Agrees S most (taken value_of >>= h) (lines.◌or◌ (lines.◌>>=◌ (one value_of) P) (lines.◌>>◌ (unless value_of) Q)) 1 (first ++ heads) tail
-agrees-unless {value_of = value_of} {first = first} {Q = Q} {heads = heads} h room stands found_so not_so = record {
-  sound = λ s ts b us e.
-      let parts = bind_some (taken value_of ts) h b us e in
-      ⊎_elim
-      (λ some. inl (some.0, parts.middle, some.2, (found_so some.0).sound s parts.middle b us (ap (λ o. h o parts.middle) (sym some.1) ∙ parts.ended)))
-      (λ none. inr (tt, ts, (refl, none.2), not_so.sound s ts b us (ap (h None) (sym none.1) ∙ (ap (λ o. h o parts.middle) (sym none.0) ∙ parts.ended))))
-      (taken-cases value_of ts parts.a parts.middle parts.begun);
-  complete = λ ts b us within spelt c. ⊎_elim
-      (λ left.
-      let here = left.2 in
-      let shorter = ap length here.1 in
-      read_then h (Some left.0) left.1 (ap (taken value_of) here.1 ∙ taken-some value_of here.0 left.1 left.0 here.2) ((found_so left.0).complete left.1 b us (omega arith) left.3 c))
-      (λ right.
-      read_then h None ts (no-token value_of ts right.2.1) (not_so.complete ts b us within (subst (λ vs. Q vs b us) right.2.0 right.3) c))
-      spelt;
-  starts = λ ts b us spelt c. ⊎_elim
-      (λ left.
-      let here = left.2 in
-      begins-left first heads ts (subst (λ vs. begins first vs ≡ true) (sym here.1) (stands.shows here.0 left.0 here.2)))
-      (λ right. begins-right first heads ts (not_so.starts ts b us (subst (λ vs. Q vs b us) right.2.0 right.3) c))
-      spelt;
-  takes = λ ts b us spelt. ⊎_elim
-      (λ left.
-      let shorter = ap length left.2.1 in
-      let more = (found_so left.0).takes left.1 b us left.3 in omega arith)
-      (λ right. let more = not_so.takes ts b us (subst (λ vs. Q vs b us) right.2.0 right.3) in omega arith)
-      spelt;
-}
 
 module _ {S : Type 0} {n : ℕ} (deeper : Level → Parser Expr) (nested : Level → Line Expr)
     (whole : Agrees S n (deeper Whole) (nested Whole) 1 expression_heads operators)
@@ -131,37 +88,44 @@ module _ {S : Type 0} {n : ℕ} (deeper : Level → Parser Expr) (nested : Level
 
   abbrev columned : Text → Line Expr
   columned first = lines.◌or◌
-      (lines.◌>>◌ (mark sign.Dot) (lines.◌>>=◌ grammar.name (λ second. gives (e.Column (record { item = Some first; name = second })))))
+      (lines.◌>>◌ (mark sign.Dot) (lines.◌>>=◌ name (λ second. gives (e.Column (record { item = Some first; name = second })))))
       (gives (e.Column (record { item = None; name = first })))
 
   abbrev named : Line Expr
-  named = lines.◌>>=◌ grammar.name (λ first. lines.◌or◌ (lines.◌>>◌ (mark sign.LeftParen) (called first)) (columned first))
+  named = lines.◌>>=◌ name (λ first. lines.◌or◌ (lines.◌>>◌ (mark sign.LeftParen) (called first)) (columned first))
+
+  abbrev literal_line : Line Expr
+  literal_line = lines.◌<$>◌ e.Literal grammar.literal
+
+  abbrev parameter_line : Line Expr
+  parameter_line = lines.◌<$>◌ e.Param parameter
 
   abbrev any_operand : Line Expr
-  any_operand = lines.◌or◌ (lines.◌>>◌ (mark sign.LeftParen) parenthesized) (lines.◌or◌ (lines.◌>>=◌ (one spec.constant_of) (λ constant. gives constant)) named)
+  any_operand = lines.◌or◌ (lines.◌>>◌ (mark sign.LeftParen) parenthesized) (lines.◌or◌ (lines.◌>>=◌ constant (λ x. gives x)) named)
 
   primary-there : (ts : Tokens) (x : Expr) (us : Tokens) → any_operand ts x us → grammar.primary nested ts x us
   unfolding grammar.primary grammar.column
-  primary-there ts x us (inl inner) = inr (inr (inr inner))
-  primary-there ts x us (inr (inl (constant, middle, found, (value, end)))) =
-      inl (subst (λ vs. one spec.constant_of ts x vs) (sym end) (subst (λ v. one spec.constant_of ts v middle) (sym value) found))
+  primary-there ts x us (inl inner) = inr (inr (inr (inr inner)))
+  primary-there ts x us (inr (inl (y, middle, inl found, (value, end)))) = inl (subst (λ vs. literal_line ts x vs) (sym end) (subst (λ v. literal_line ts v middle) (sym value) found))
+  primary-there ts x us (inr (inl (y, middle, inr found, (value, end)))) = inr (inl (subst (λ vs. parameter_line ts x vs) (sym end) (subst (λ v. parameter_line ts v middle) (sym value) found)))
   primary-there ts x us (inr (inr (first, middle, front, inl (u, behind, opened, inl (v, after, starred, (w, last, closed, (value, end))))))) =
-      inr (inr (inl (first, middle, front, (u, behind, opened, (e.CallStar first, after, inl (v, after, starred, (refl, refl)), (w, last, closed, (value, end)))))))
+      inr (inr (inr (inl (first, middle, front, (u, behind, opened, (e.CallStar first, after, inl (v, after, starred, (refl, refl)), (w, last, closed, (value, end))))))))
   primary-there ts x us (inr (inr (first, middle, front, inl (u, behind, opened, inr (argument, after, inner, (w, last, closed, (value, end))))))) =
-      inr (inr (inl (first, middle, front, (u, behind, opened, (e.Call first argument, after, inr (argument, after, inner, (refl, refl)), (w, last, closed, (value, end)))))))
-  primary-there ts x us (inr (inr (first, middle, front, inr (inl dotted)))) = inr (inl (inl (first, middle, front, dotted)))
-  primary-there ts x us (inr (inr (first, middle, front, inr (inr alone)))) = inr (inl (inr (first, middle, front, alone)))
+      inr (inr (inr (inl (first, middle, front, (u, behind, opened, (e.Call first argument, after, inr (argument, after, inner, (refl, refl)), (w, last, closed, (value, end))))))))
+  primary-there ts x us (inr (inr (first, middle, front, inr (inl dotted)))) = inr (inr (inl (inl (first, middle, front, dotted))))
+  primary-there ts x us (inr (inr (first, middle, front, inr (inr alone)))) = inr (inr (inl (inr (first, middle, front, alone))))
 
   primary-back : (ts : Tokens) (x : Expr) (us : Tokens) → grammar.primary nested ts x us → any_operand ts x us
   unfolding grammar.primary grammar.column
-  primary-back ts x us (inl found) = inr (inl (x, us, found, (refl, refl)))
-  primary-back ts x us (inr (inl (inl (first, middle, front, dotted)))) = inr (inr (first, middle, front, inr (inl dotted)))
-  primary-back ts x us (inr (inl (inr (first, middle, front, alone)))) = inr (inr (first, middle, front, inr (inr alone)))
-  primary-back ts x us (inr (inr (inl (first, middle, front, (u, behind, opened, (c, after, inl (v, starred_end, starred, (same, here)), (w, last, closed, (value, end)))))))) =
+  primary-back ts x us (inl found) = inr (inl (x, us, inl found, (refl, refl)))
+  primary-back ts x us (inr (inl found)) = inr (inl (x, us, inr found, (refl, refl)))
+  primary-back ts x us (inr (inr (inl (inl (first, middle, front, dotted))))) = inr (inr (first, middle, front, inr (inl dotted)))
+  primary-back ts x us (inr (inr (inl (inr (first, middle, front, alone))))) = inr (inr (first, middle, front, inr (inr alone)))
+  primary-back ts x us (inr (inr (inr (inl (first, middle, front, (u, behind, opened, (c, after, inl (v, starred_end, starred, (same, here)), (w, last, closed, (value, end))))))))) =
       inr (inr (first, middle, front, inl (u, behind, opened, inl (v, starred_end, starred, (w, last, sym here ∙ closed, (value ∙ same, end))))))
-  primary-back ts x us (inr (inr (inl (first, middle, front, (u, behind, opened, (c, after, inr (argument, inner_end, inner, (same, here)), (w, last, closed, (value, end)))))))) =
+  primary-back ts x us (inr (inr (inr (inl (first, middle, front, (u, behind, opened, (c, after, inr (argument, inner_end, inner, (same, here)), (w, last, closed, (value, end))))))))) =
       inr (inr (first, middle, front, inl (u, behind, opened, inr (argument, inner_end, inner, (w, last, sym here ∙ closed, (value ∙ same, end))))))
-  primary-back ts x us (inr (inr (inr inner))) = inl inner
+  primary-back ts x us (inr (inr (inr (inr inner)))) = inl inner
 
   agrees-parenthesized : Agrees S n (spec.parenthesized deeper) parenthesized 1 expression_heads nothing
   unfolding spec.parenthesized
@@ -193,7 +157,7 @@ module _ {S : Type 0} {n : ℕ} (deeper : Level → Parser Expr) (nested : Level
   -- ---- signs and arithmetic
 
   abbrev negated_number : Line Expr
-  negated_number = lines.◌or◌ (lines.◌>>=◌ (one digits_of) (λ digits. gives (spec.negative_number digits))) (lines.◌>>◌ (unless digits_of) (lines.◌<$>◌ e.Minus (nested Signed)))
+  negated_number = lines.◌or◌ (lines.◌>>=◌ number (λ digits. gives (spec.negative_number digits))) (lines.◌>>◌ (unless number) (lines.◌<$>◌ e.Minus (nested Signed)))
 
   abbrev signed_operand : Line Expr
   signed_operand = lines.◌or◌ (lines.◌>>◌ (mark sign.Minus) negated_number) (grammar.primary nested)
@@ -240,11 +204,11 @@ module _ {S : Type 0} {n : ℕ} (deeper : Level → Parser Expr) (nested : Level
       agrees-bind agrees-sum (λ high. agrees-pure (e.Between operand low high is_not) membership_tail) refl) refl) refl)
 
   abbrev behind_not : Expr → Bool → Line Expr → Line Expr
-  behind_not operand is_not other = lines.◌or◌ (lines.◌>>◌ (key (codes "in")) (grammar.in_list nested operand is_not))
-      (lines.◌or◌ (lines.◌>>◌ (key (codes "between")) (grammar.between nested operand is_not)) other)
+  behind_not operand is_not other = lines.◌or◌ (lines.◌>>◌ (a_word (codes "in")) (grammar.in_list nested operand is_not))
+      (lines.◌or◌ (lines.◌>>◌ (a_word (codes "between")) (grammar.between nested operand is_not)) other)
 
   abbrev member : Line Expr
-  member = lines.◌>>=◌ (grammar.sum nested) (λ operand. lines.◌or◌ (lines.◌>>◌ (key (codes "not")) (behind_not operand true nowhere)) (behind_not operand false (gives operand)))
+  member = lines.◌>>=◌ (grammar.sum nested) (λ operand. lines.◌or◌ (lines.◌>>◌ (a_word (codes "not")) (behind_not operand true nowhere)) (behind_not operand false (gives operand)))
 
   member-there : (ts : Tokens) (x : Expr) (us : Tokens) → member ts x us → grammar.membership nested ts x us
   unfolding grammar.membership
@@ -293,7 +257,7 @@ module _ {S : Type 0} {n : ℕ} (deeper : Level → Parser Expr) (nested : Level
   unfolding spec.null_test grammar.null_test
   agrees-null_test = agrees-fewer 1 (omega arith) (agrees-bind agrees-comparison (λ operand.
       agrees-word (codes "is")
-      (agrees-bind (agrees-said (codes "not")) (λ is_not. agrees-bind (agrees-expect_word (codes "null")) (λ u. agrees-pure (e.IsNull operand is_not) negation_tail) refl) refl)
+      (agrees-bind (agrees-said "not") (λ is_not. agrees-bind (agrees-expect_word (codes "null")) (λ u. agrees-pure (e.IsNull operand is_not) negation_tail) refl) refl)
       (agrees-pure operand negation_tail) refl) refl)
 
   -- ---- logic

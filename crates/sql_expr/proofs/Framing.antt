@@ -5,16 +5,19 @@ use Rattle.sql_tokens.specs.declared.token.Token.{Token}
 use Rattle.sql_tokens.specs.declared.token.Token.TheVariants as token
 use Rattle.sql_tokens.specs.declared.token.Sign.{Sign}
 use Rattle.sql_tokens.specs.declared.token.Sign.TheVariants as sign
-use Rattle.sql_tree.specs.declared.expr.Arithmetic.{Arithmetic}
+use Rattle.sql_tree.specs.declared.expr.Arithmetic.{Arithmetic, TheVariants.Add, TheVariants.Subtract, TheVariants.Multiply, TheVariants.Divide}
+use Rattle.sql_tree.specs.declared.expr.Comparison.TheVariants.{Equal, NotEqual, Less, LessEqual, Greater, GreaterEqual}
+use Rattle.sql_tree.specs.declared.expr.Literal.{Literal}
+use Rattle.sql_tree.specs.declared.expr.Literal.TheVariants as literal
 use Rattle.sql_tree.specs.declared.expr.Expr.{Expr}
 use Rattle.sql_tree.specs.declared.expr.Expr.TheVariants as e
 use Rattle.sql_expr.specs.declared.grammar.Level.{Level}
 use Rattle.sql_expr.specs.declared.grammar.Level.TheVariants.{Whole, Negated, Signed}
 use Rattle.sql_expr.specs.Reading.{Text, Tokens}
-use Rattle.sql_expr.specs.Lines.{Line, nowhere, gives, one, unless, stands_for, key, mark, many}
+use Prim.Native.String.{String}
+use Rattle.sql_expr.specs.Lines.{Line, nowhere, gives, unless, word as a_word, mark, many, name, number, string, parameter}
 use Rattle.sql_expr.specs.Lines as lines
-use Rattle.sql_expr.specs.Literals.{constant_of, digits_of, negative_number}
-use Rattle.sql_expr.specs.Operators.{comparison_of, additive_of, multiplicative_of}
+use Rattle.sql_expr.specs.Literals.{negative_number}
 use Rattle.sql_expr.specs.Grammar as grammar
 use Rattle.sql_expr.proofs.ExpressionAgreement.{within-takes}
 
@@ -32,11 +35,23 @@ frames-nowhere = record { at = λ ts a us spelt. absurd spelt }
 frames-gives : {A : Type 0} (a : A) → Frames (gives a)
 frames-gives a = record { at = λ ts b us spelt. record { front = []; joined = sym spelt.1; anywhere = λ vs. (spelt.0, refl) } }
 
-frames-one : {A : Type 0} (value_of : Token → Option A) → Frames (one value_of)
-frames-one value_of = record { at = λ ts a us spelt. record { front = spelt.0 ∷ []; joined = spelt.1; anywhere = λ vs. (spelt.0, refl, spelt.2) } }
+frames-name : Frames name
+frames-name = record { at = λ ts n us spelt. ⊎_elim
+    (λ bare. record { front = token.Word n ∷ []; joined = bare.0; anywhere = λ vs. inl (refl, bare.1) })
+    (λ quoted. record { front = token.Quoted n ∷ []; joined = quoted; anywhere = λ vs. inr refl })
+    spelt }
 
-frames-key : (word : Text) → Frames (key word)
-frames-key word = record { at = λ ts u us spelt. record { front = token.Word word ∷ []; joined = spelt; anywhere = λ vs. refl } }
+frames-number : Frames number
+frames-number = record { at = λ ts digits us spelt. record { front = token.Number digits ∷ []; joined = spelt; anywhere = λ vs. refl } }
+
+frames-string : Frames string
+frames-string = record { at = λ ts text us spelt. record { front = token.Text text ∷ []; joined = spelt; anywhere = λ vs. refl } }
+
+frames-parameter : Frames parameter
+frames-parameter = record { at = λ ts digits us spelt. record { front = token.Param digits ∷ []; joined = spelt; anywhere = λ vs. refl } }
+
+frames-key : (w : Text) → Frames (a_word w)
+frames-key w = record { at = λ ts u us spelt. record { front = token.Word w ∷ []; joined = spelt; anywhere = λ vs. refl } }
 
 frames-mark : (s : Sign) → Frames (mark s)
 frames-mark s = record { at = λ ts u us spelt. record { front = token.Sign s ∷ []; joined = spelt; anywhere = λ vs. refl } }
@@ -91,35 +106,42 @@ frames-many each = record { at = many-framed each }
 frames-separated : {A : Type 0} {L : Line (Unit {0})} {P : Line A} → Frames L → Frames P → Frames (lines.separated L P)
 frames-separated separator each = frames-bind each (λ first. frames-bind (frames-many (frames-bind separator (λ u. each))) (λ others. frames-gives (first ∷ others)))
 
-frames-said : (word : Text) → Frames (lines.said word)
-frames-said word = frames-or (frames-bind (frames-key word) (λ u. frames-gives true)) (frames-gives false)
+frames-said : (keyword : String) → Frames (lines.said keyword)
+frames-said keyword = frames-or (frames-bind (frames-key (codes keyword)) (λ u. frames-gives true)) (frames-gives false)
 
 frames-chain : {operator : Line Arithmetic} {operand : Line Expr} → Frames operator → Frames operand → Frames (grammar.chain operator operand)
 frames-chain o each = frames-bind each (λ first. frames-bind (frames-many (frames-bind o (λ op. frames-bind each (λ right. frames-gives (op, right))))) (λ others. frames-gives (grammar.grouped first others)))
 
 -- ---- a look at the next token, which is the first of what comes behind
 
-unless-framed : {A B : Type 0} (value_of : Token → Option B) {Q : Line A} (ts : Tokens) (a : A) (us front : Tokens)
-    → ts ≡ front ++ us → stands_for value_of ts ≡ false → 1 + length us ≤ length ts → ((vs : Tokens) → Q (front ++ vs) a vs) → Framed (lines.◌>>◌ (unless value_of) Q) ts a us
-unless-framed value_of ts a us [] joined none some anywhere = let same = ap length joined in absurd (omega (arith, same, some))
-unless-framed value_of ts a us (t ∷ front) joined none some anywhere = record {
+no_number-framed : {A : Type 0} {Q : Line A} (ts : Tokens) (a : A) (us front : Tokens)
+    → ts ≡ front ++ us → ((digits : Text) (vs : Tokens) → ¬ number ts digits vs) → 1 + length us ≤ length ts → ((vs : Tokens) → Q (front ++ vs) a vs) → Framed (lines.◌>>◌ (unless number) Q) ts a us
+no_number-framed ts a us [] joined none some anywhere = let same = ap length joined in absurd (omega (arith, same, some))
+no_number-framed ts a us (t ∷ front) joined none some anywhere = record {
   front = t ∷ front;
   joined = joined;
-  anywhere = λ vs. (tt, t ∷ front ++ vs, (refl, ap (stands_for value_of) (sym joined) ∙ none), anywhere vs);
+  anywhere = λ vs. (tt, t ∷ front ++ vs, (refl, λ digits ws spelt. let same : t ≡ token.Number digits = cc in none digits (front ++ us) (joined ∙ ap (λ x. x ∷ front ++ us) same)), anywhere vs);
 }
 
-frames-unless : {A B : Type 0} (value_of : Token → Option B) {Q : Line A} → Frames Q → ((ts : Tokens) (a : A) (us : Tokens) → Q ts a us → 1 + length us ≤ length ts) → Frames (lines.◌>>◌ (unless value_of) Q)
-frames-unless value_of {Q = Q} all some = record {
+frames-no_number : {A : Type 0} {Q : Line A} → Frames Q → ((ts : Tokens) (a : A) (us : Tokens) → Q ts a us → 1 + length us ≤ length ts) → Frames (lines.◌>>◌ (unless number) Q)
+frames-no_number {Q = Q} all some = record {
   at = λ ts a us spelt.
       let here = subst (λ vs. Q vs a us) spelt.2.0 spelt.3 in
       let f = all.at ts a us here in
-      unless-framed value_of ts a us f.front f.joined spelt.2.1 (some ts a us here) f.anywhere;
+      no_number-framed ts a us f.front f.joined spelt.2.1 (some ts a us here) f.anywhere;
 }
 
 -- ---- expressions
 
-frames-name : Frames grammar.name
-frames-name = frames-one _
+frames-literal : Frames grammar.literal
+frames-literal = frames-or (frames-mapped (λ digits. literal.Number (record { negative = false; digits = digits })) frames-number) (frames-or (frames-mapped literal.Text frames-string)
+    (frames-or (given "null" literal.Null) (frames-or (given "true" (literal.Bool true)) (given "false" (literal.Bool false)))))
+  where
+    given : (keyword : String) (value : Literal) → Frames (lines.◌>>◌ (a_word (codes keyword)) (gives value))
+    given keyword value = frames-bind (frames-key (codes keyword)) (λ u. frames-gives value)
+
+frames-operator : {A : Type 0} (s : Sign) (value : A) → Frames (lines.◌>>◌ (mark s) (gives value))
+frames-operator s value = frames-bind (frames-mark s) (λ u. frames-gives value)
 
 frames-column : Frames grammar.column
 unfolding grammar.column
@@ -127,8 +149,12 @@ frames-column = frames-or
     (frames-bind frames-name (λ item. frames-bind (frames-mark sign.Dot) (λ u. frames-bind frames-name (λ second. frames-gives (e.Column (record { item = Some item; name = second }))))))
     (frames-mapped (λ only. e.Column (record { item = None; name = only })) frames-name)
 
+frames-comparison_operator : Frames grammar.comparison_operator
+frames-comparison_operator = frames-or (frames-operator sign.Equal Equal) (frames-or (frames-operator sign.NotEqual NotEqual) (frames-or (frames-operator sign.Less Less)
+    (frames-or (frames-operator sign.LessEqual LessEqual) (frames-or (frames-operator sign.Greater Greater) (frames-operator sign.GreaterEqual GreaterEqual)))))
+
 module _ (nested : Level → Line Expr) (below : (level : Level) → Frames (nested level)) (some : (ts : Tokens) (x : Expr) (us : Tokens) → nested Signed ts x us → 1 + length us ≤ length ts) where
-  frames-parenthesized : Frames (grammar.parenthesized nested)
+  frames-parenthesized : Frames (lines.parenthesized (nested Whole))
   frames-parenthesized = frames-bind (frames-mark sign.LeftParen) (λ u. frames-bind (below Whole) (λ inner. frames-bind (frames-mark sign.RightParen) (λ v. frames-gives inner)))
 
   frames-call : Frames (grammar.call nested)
@@ -138,13 +164,13 @@ module _ (nested : Level → Line Expr) (below : (level : Level) → Frames (nes
 
   frames-primary : Frames (grammar.primary nested)
   unfolding grammar.primary
-  frames-primary = frames-or (frames-one constant_of) (frames-or frames-column (frames-or frames-call frames-parenthesized))
+  frames-primary = frames-or (frames-mapped e.Literal frames-literal) (frames-or (frames-mapped e.Param frames-parameter) (frames-or frames-column (frames-or frames-call frames-parenthesized)))
 
   abbrev minus_of_none : Line Expr
-  minus_of_none = lines.◌>>◌ (mark sign.Minus) (lines.◌>>◌ (unless digits_of) (lines.◌<$>◌ e.Minus (nested Signed)))
+  minus_of_none = lines.◌>>◌ (mark sign.Minus) (lines.◌>>◌ (unless number) (lines.◌<$>◌ e.Minus (nested Signed)))
 
   abbrev minus_line : Line Expr
-  minus_line = lines.◌>>◌ (lines.◌>>◌ (mark sign.Minus) (unless digits_of)) (lines.◌<$>◌ e.Minus (nested Signed))
+  minus_line = lines.◌>>◌ (lines.◌>>◌ (mark sign.Minus) (unless number)) (lines.◌<$>◌ e.Minus (nested Signed))
 
   minus-there : (ts : Tokens) (x : Expr) (us : Tokens) → minus_of_none ts x us → minus_line ts x us
   minus-there ts x us (u, middle, minus, (v, after, none, inner)) = (v, after, (u, middle, minus, none), inner)
@@ -157,16 +183,16 @@ module _ (nested : Level → Line Expr) (below : (level : Level) → Frames (nes
 
   frames-signed : Frames (grammar.signed nested)
   unfolding grammar.signed
-  frames-signed = frames-or (frames-bind (frames-mark sign.Minus) (λ u. frames-mapped negative_number (frames-one digits_of)))
-      (frames-or (frames-same minus-there minus-back (frames-bind (frames-mark sign.Minus) (λ u. frames-unless digits_of (frames-mapped e.Minus (below Signed)) minus-some))) frames-primary)
+  frames-signed = frames-or (frames-bind (frames-mark sign.Minus) (λ u. frames-mapped negative_number frames-number))
+      (frames-or (frames-same minus-there minus-back (frames-bind (frames-mark sign.Minus) (λ u. frames-no_number (frames-mapped e.Minus (below Signed)) minus-some))) frames-primary)
 
   frames-product : Frames (grammar.product nested)
   unfolding grammar.product
-  frames-product = frames-chain (frames-one multiplicative_of) frames-signed
+  frames-product = frames-chain (frames-or (frames-operator sign.Star Multiply) (frames-operator sign.Slash Divide)) frames-signed
 
   frames-sum : Frames (grammar.sum nested)
   unfolding grammar.sum
-  frames-sum = frames-chain (frames-one additive_of) frames-product
+  frames-sum = frames-chain (frames-or (frames-operator sign.Plus Add) (frames-operator sign.Minus Subtract)) frames-product
 
   frames-in_list : (operand : Expr) (negated : Bool) → Frames (grammar.in_list nested operand negated)
   unfolding grammar.in_list
@@ -180,20 +206,20 @@ module _ (nested : Level → Line Expr) (below : (level : Level) → Frames (nes
   frames-membership : Frames (grammar.membership nested)
   unfolding grammar.membership
   frames-membership = frames-bind frames-sum (λ operand. frames-or
-      (frames-bind (frames-said (codes "not")) (λ negated. frames-bind (frames-key (codes "in")) (λ u. frames-in_list operand negated)))
-      (frames-or (frames-bind (frames-said (codes "not")) (λ negated. frames-bind (frames-key (codes "between")) (λ u. frames-between operand negated)))
+      (frames-bind (frames-said "not") (λ negated. frames-bind (frames-key (codes "in")) (λ u. frames-in_list operand negated)))
+      (frames-or (frames-bind (frames-said "not") (λ negated. frames-bind (frames-key (codes "between")) (λ u. frames-between operand negated)))
       (frames-gives operand)))
 
   frames-comparison : Frames (grammar.comparison nested)
   unfolding grammar.comparison
   frames-comparison = frames-bind frames-membership (λ left. frames-or
-      (frames-bind (frames-one comparison_of) (λ op. frames-bind frames-membership (λ right. frames-gives (e.Comparison op left right))))
+      (frames-bind frames-comparison_operator (λ op. frames-bind frames-membership (λ right. frames-gives (e.Comparison op left right))))
       (frames-gives left))
 
   frames-null_test : Frames (grammar.null_test nested)
   unfolding grammar.null_test
   frames-null_test = frames-bind frames-comparison (λ operand. frames-or
-      (frames-bind (frames-key (codes "is")) (λ u. frames-bind (frames-said (codes "not")) (λ negated. frames-bind (frames-key (codes "null")) (λ v. frames-gives (e.IsNull operand negated)))))
+      (frames-bind (frames-key (codes "is")) (λ u. frames-bind (frames-said "not") (λ negated. frames-bind (frames-key (codes "null")) (λ v. frames-gives (e.IsNull operand negated)))))
       (frames-gives operand))
 
   pub frames-negation : Frames (grammar.negation nested)

@@ -6,11 +6,11 @@ use Rattle.sql_tree.specs.declared.expr.Expr.{Expr}
 use Rattle.sql_tree.specs.declared.expr.Expr.TheVariants as e
 use Rattle.sql_expr.specs.Reading.{Text, Tokens, Parser, ◌>>=◌, pure, taken, eat_word, separated_from, goes_on}
 use Rattle.sql_expr.specs.Expressions.{grouped_from}
-use Rattle.sql_expr.specs.Lines.{Line, gives, one, many, key}
+use Rattle.sql_expr.specs.Lines.{Line, gives, many, word as a_word}
 use Rattle.sql_expr.specs.Lines as lines
 use Rattle.sql_expr.specs.Grammar.{operation, grouped, chain}
 use Rattle.sql_expr.proofs.Heads.{Barred, Head, clear, begins, all_avoid, begins-clear, clear-begins, begins-left, begins-right}
-use Rattle.sql_expr.proofs.Agreement.{Agrees, Stands, tests-word, bar_word, bind_some, same_value, same_rest, same_read, read_then, taken-cases, taken-some, taken-none, agrees-pure, agrees-bind, agrees-word, agrees-same, agrees-fewer}
+use Rattle.sql_expr.proofs.Agreement.{Agrees, Stands, tests-word, bar_word, bind_some, same_value, same_rest, same_read, read_then, taken-cases, taken-some, taken-nothing, none-barred, agrees-pure, agrees-bind, agrees-word, agrees-same, agrees-fewer}
 use Rattle.sql_expr.proofs.ListAgreement.{agrees-separated_from}
 
 -- ---- operands with a word between two
@@ -19,16 +19,16 @@ module _ (f : List Expr → Expr) (word : Text) (P : Line Expr) where
   -- the first operand is read before it is known whether more come
   abbrev pub in_order : Line Expr
   in_order = lines.◌>>=◌ P (λ first. lines.◌or◌
-      (lines.◌>>◌ (key word) (lines.◌>>=◌ (lines.◌>>=◌ P (λ a. lines.◌>>=◌ (many (lines.◌>>◌ (key word) P)) (λ more. gives ((first ∷ []) ++ a ∷ more)))) (λ all. gives (f all))))
+      (lines.◌>>◌ (a_word word) (lines.◌>>=◌ (lines.◌>>=◌ P (λ a. lines.◌>>=◌ (many (lines.◌>>◌ (a_word word) P)) (λ more. gives ((first ∷ []) ++ a ∷ more)))) (λ all. gives (f all))))
       (gives first))
 
-  there : (ts : Tokens) (x : Expr) (us : Tokens) → in_order ts x us → (lines.◌<$>◌ (operation f) (lines.separated (key word) P)) ts x us
+  there : (ts : Tokens) (x : Expr) (us : Tokens) → in_order ts x us → (lines.◌<$>◌ (operation f) (lines.separated (a_word word) P)) ts x us
   there ts x us (first, middle, front, inl (u, behind, keyed, (all, ended, (a, second, next, (more, last, back, (same, here))), (value, end)))) =
       (first ∷ a ∷ more, last, (first, middle, front, (a ∷ more, last, (second, (tt, behind, keyed, next), back), (refl, refl))), (value ∙ ap f same, end ∙ here))
   there ts x us (first, middle, front, inr (value, end)) =
       (first ∷ [], middle, (first, middle, front, ([], middle, refl, (refl, refl))), (value, end))
 
-  back_of : (ts : Tokens) (x : Expr) (us : Tokens) → (lines.◌<$>◌ (operation f) (lines.separated (key word) P)) ts x us → in_order ts x us
+  back_of : (ts : Tokens) (x : Expr) (us : Tokens) → (lines.◌<$>◌ (operation f) (lines.separated (a_word word) P)) ts x us → in_order ts x us
   back_of ts x us (l, last, (first, middle, front, ([], second, none, (same, here))), (value, end)) =
       (first, middle, front, inr (value ∙ ap (operation f) same, end ∙ (here ∙ none)))
   back_of ts x us (l, last, (first, middle, front, (a ∷ more, second, (third, (u, behind, keyed, next), back), (same, here))), (value, end)) =
@@ -37,7 +37,7 @@ module _ (f : List Expr → Expr) (word : Text) (P : Line Expr) where
   pub agrees-operands : {S : Type 0} {n : ℕ} {p : Parser Expr} {k : ℕ} {heads : List Head} {stop : Barred} (tail : Barred)
       → Agrees S n p P (suc k) heads stop → all_avoid stop (Head.word word ∷ Head.others tail ∷ []) ≡ true → all_avoid (bar_word word) (Head.others tail ∷ []) ≡ true → all_avoid tail (Head.others tail ∷ []) ≡ true
       → Agrees S n (p >>= (λ first. eat_word word >>= (λ more. cond more ((λ ts. separated_from (eat_word word) p (length ts) (first ∷ []) ts) >>= (λ all. pure (f all))) (pure first))))
-      (lines.◌<$>◌ (operation f) (lines.separated (key word) P)) (suc k) heads tail
+      (lines.◌<$>◌ (operation f) (lines.separated (a_word word) P)) (suc k) heads tail
   agrees-operands {k = k} tail each apart ends same = agrees-same there back_of (agrees-fewer (suc k) (omega arith)
       (agrees-bind each (λ first. agrees-word word
       (agrees-bind (agrees-separated_from (tests-word word) each tail apart ends (first ∷ [])) (λ all. agrees-pure (f all) tail) same)
@@ -51,11 +51,11 @@ pub record Grouped (applied : Line (Arithmetic × Expr)) (left : Expr) (ts : Tok
   pub back : many applied ts others us
   pub value : x ≡ grouped left others
 
-module _ {S : Type 0} {n : ℕ} {operator_of : Token → Option Arithmetic} {first : List Head} {bar : Barred} {p : Parser Expr} {P : Line Expr} {k : ℕ} {heads : List Head} {stop : Barred}
-    (stands : Stands operator_of first bar) (each : Agrees S n p P (suc k) heads stop) where
+module _ {S : Type 0} {n : ℕ} {operator_of : Token → Option Arithmetic} {T : Line Arithmetic} {first : List Head} {bar : Barred} {p : Parser Expr} {P : Line Expr} {k : ℕ} {heads : List Head} {stop : Barred}
+    (stands : Stands operator_of T first bar) (each : Agrees S n p P (suc k) heads stop) where
   -- an operator with its right operand
   abbrev applied : Line (Arithmetic × Expr)
-  applied = lines.◌>>=◌ (one operator_of) (λ op. lines.◌>>=◌ P (λ right. gives (op, right)))
+  applied = lines.◌>>=◌ T (λ op. lines.◌>>=◌ P (λ right. gives (op, right)))
 
   grouped-sound : S → (turns : ℕ) (left : Expr) (ts : Tokens) (x : Expr) (us : Tokens) → grouped_from (taken operator_of) p turns left ts ≡ Some (x, us) → Grouped applied left ts x us
   unfolding grouped_from
@@ -70,7 +70,7 @@ module _ {S : Type 0} {n : ℕ} {operator_of : Token → Option Arithmetic} {fir
       let front = each.sound s parts.middle operand.a operand.middle operand.begun in
       record {
         others = (some.0, operand.a) ∷ rest.others;
-        back = (operand.middle, (some.0, parts.middle, some.2, (operand.a, operand.middle, front, (refl, refl))), rest.back);
+        back = (operand.middle, (some.0, parts.middle, stands.there ts some.0 parts.middle some.2, (operand.a, operand.middle, front, (refl, refl))), rest.back);
         value = rest.value;
       })
       (λ none.
@@ -82,13 +82,13 @@ module _ {S : Type 0} {n : ℕ} {operator_of : Token → Option Arithmetic} {fir
     begins-applied : (ts : Tokens) (others : List (Arithmetic × Expr)) (us : Tokens) → many applied ts others us → clear tail us ≡ true → begins (first ++ Head.others tail ∷ []) ts ≡ true
     begins-applied ts [] us back c = begins-right first (Head.others tail ∷ []) ts (clear-begins tail ts (subst (λ vs. clear tail vs ≡ true) back c))
     begins-applied ts (next ∷ more) us back c =
-        let op = back.1.2 in
+        let op = stands.back ts back.1.0 back.1.1 back.1.2 in
         begins-left first (Head.others tail ∷ []) ts (subst (λ vs. begins first vs ≡ true) (sym op.1) (stands.shows op.0 back.1.0 op.2))
 
     takes-applied : (ts : Tokens) (others : List (Arithmetic × Expr)) (us : Tokens) → many applied ts others us → length us ≤ length ts
     takes-applied ts [] us back = let same = ap length back in omega (arith, same)
     takes-applied ts (next ∷ more) us back =
-        let op = back.1.2 in
+        let op = stands.back ts back.1.0 back.1.1 back.1.2 in
         let operand = back.1.3 in
         let one_less = ap length op.1 in
         let less = each.takes back.1.1 operand.0 operand.1 operand.2 in
@@ -100,13 +100,13 @@ module _ {S : Type 0} {n : ℕ} {operator_of : Token → Option Arithmetic} {fir
     unfolding grouped_from
     grouped-complete zero left ts [] us enough within back c = ap (λ vs. Some (left, vs)) (sym back)
     grouped-complete zero left ts (next ∷ more) us enough within back c =
-        let one_less = ap length back.1.2.1 in absurd (omega arith)
+        let one_less = ap length (stands.back ts back.1.0 back.1.1 back.1.2).1 in absurd (omega arith)
     grouped-complete (suc turns) left ts [] us enough within back c =
         let free = begins-clear bar (Head.others tail ∷ []) ts ends (clear-begins tail ts (subst (λ vs. clear tail vs ≡ true) back c)) in
-        read_then (λ found. goes_on found (λ op. p >>= (λ right. grouped_from (taken operator_of) p turns (e.Arithmetic op left right))) left) None ts (taken-none operator_of first bar stands ts free)
+        read_then (λ found. goes_on found (λ op. p >>= (λ right. grouped_from (taken operator_of) p turns (e.Arithmetic op left right))) left) None ts (taken-nothing operator_of ts (none-barred stands ts free))
         (ap (λ vs. Some (left, vs)) (sym back))
     grouped-complete (suc turns) left ts (next ∷ more) us enough within back c =
-        let op = back.1.2 in
+        let op = stands.back ts back.1.0 back.1.1 back.1.2 in
         let operand = back.1.3 in
         let one_less = ap length op.1 in
         let less = each.takes back.1.1 operand.0 operand.1 operand.2 in
@@ -130,5 +130,5 @@ module _ {S : Type 0} {n : ℕ} {operator_of : Token → Option Arithmetic} {fir
       takes = λ ts x us spelt. let rest = takes-applied ts spelt.0 spelt.1 spelt.2 in let same = ap length spelt.3.1 in omega (arith, rest);
     }
 
-    pub agrees-chain : Agrees S n (p >>= (λ left. λ ts. grouped_from (taken operator_of) p (length ts) left ts)) (chain (one operator_of) P) (suc k) heads tail
+    pub agrees-chain : Agrees S n (p >>= (λ left. λ ts. grouped_from (taken operator_of) p (length ts) left ts)) (chain T P) (suc k) heads tail
     agrees-chain = agrees-fewer (suc k) (omega arith) (agrees-bind each (λ left. agrees-grouped left) apart)

@@ -1,29 +1,37 @@
 -- The grammar of expressions: which tokens spell one, line by line.
-use Rattle.std.specs.Prelude.{◌≡◌, ◌⊎◌, ◌<◌, ℕ, zero, suc, Bool, List, [], ◌∷◌, length, Some, None, codes}
+use Rattle.std.specs.Prelude.{◌≡◌, ◌⊎◌, ◌<◌, ℕ, zero, suc, Bool, true, false, List, [], ◌∷◌, length, Some, None}
 use Rattle.sql_tokens.specs.declared.token.Sign.TheVariants as sign
-use Rattle.sql_tree.specs.declared.expr.Arithmetic.{Arithmetic}
-use Rattle.sql_tree.specs.declared.expr.Expr.{Expr}
+use Rattle.sql_tree.specs.declared.expr.{Arithmetic.Arithmetic, Comparison.Comparison, Expr.Expr, Literal.Literal}
+use Rattle.sql_tree.specs.declared.expr.Arithmetic.TheVariants.{Add, Subtract, Multiply, Divide}
+use Rattle.sql_tree.specs.declared.expr.Comparison.TheVariants.{Equal, NotEqual, Less, LessEqual, Greater, GreaterEqual}
 use Rattle.sql_tree.specs.declared.expr.Expr.TheVariants as e
-use Rattle.sql_expr.specs.declared.grammar.Level.{Level}
-use Rattle.sql_expr.specs.declared.grammar.Level.TheVariants.{Whole, Negated, Signed}
-use Rattle.sql_expr.specs.Texts.{Text, Tokens}
-use Rattle.sql_expr.specs.Lines.{Line, ◌>>=◌, ◌>>◌, ◌<$>◌, ◌or◌, nowhere, gives, one, unless, key, mark, said, many, separated, list}
-use Rattle.sql_expr.specs.Terminals.{name_of, constant_of, digits_of, negative_number}
-use Rattle.sql_expr.specs.Operators.{comparison_of, additive_of, multiplicative_of}
+use Rattle.sql_tree.specs.declared.expr.Literal.TheVariants as literal_of
+use Rattle.sql_expr.specs.declared.grammar.Level.{Level, TheVariants.Whole, TheVariants.Negated, TheVariants.Signed}
+use Rattle.sql_expr.specs.Texts.{Tokens}
+use Rattle.sql_expr.specs.Lines.{Line, ◌>>=◌, ◌>>◌, ◌<$>◌, ◌or◌, key, mark, name, number, string, parameter, nowhere, gives, unless, said, many, separated, list, parenthesized}
 
--- a word that isn't reserved, or a quoted identifier
-abbrev pub name : Line Text
-name = one name_of
+-- number | string | NULL | TRUE | FALSE
+abbrev pub literal : Line Literal
+literal = (λ digits. literal_of.Number (record { negative = false; digits = digits })) <$> number or literal_of.Text <$> string
+    or key "null" >> gives literal_of.Null or key "true" >> gives (literal_of.Bool true) or key "false" >> gives (literal_of.Bool false)
 
 -- name ["." name]
 unfoldable pub column : Line Expr
-column =
-    (do
-      item ← name
-      mark sign.Dot
-      second ← name
-      gives (e.Column (record { item = Some item; name = second })))
+column = (do item ← name; mark sign.Dot; second ← name; gives (e.Column (record { item = Some item; name = second })))
     or (λ only. e.Column (record { item = None; name = only })) <$> name
+
+-- ---- operators
+
+abbrev pub comparison_operator : Line Comparison
+comparison_operator = mark sign.Equal >> gives Equal or mark sign.NotEqual >> gives NotEqual
+    or mark sign.Less >> gives Less or mark sign.LessEqual >> gives LessEqual
+    or mark sign.Greater >> gives Greater or mark sign.GreaterEqual >> gives GreaterEqual
+
+abbrev pub additive : Line Arithmetic
+additive = mark sign.Plus >> gives Add or mark sign.Minus >> gives Subtract
+
+abbrev pub multiplicative : Line Arithmetic
+multiplicative = mark sign.Star >> gives Multiply or mark sign.Slash >> gives Divide
 
 -- an operand alone stands for itself, and more than one for the operation on them
 abbrev pub operation : (List Expr → Expr) → List Expr → Expr
@@ -40,100 +48,64 @@ grouped left (next ∷ more) = grouped (e.Arithmetic next.0 left next.1) more
 abbrev pub chain : Line Arithmetic → Line Expr → Line Expr
 chain operator operand = do
   first ← operand
-  others ← many (do
-    op ← operator
-    right ← operand
-    gives (op, right))
+  others ← many (do op ← operator; right ← operand; gives (op, right))
   gives (grouped first others)
 
--- The lines over the expressions that are nested in them.
+-- ---- the lines over the expressions that are nested in them
 module _ (nested : Level → Line Expr) where
-  -- "(" disjunction ")"
-  abbrev pub parenthesized : Line Expr
-  parenthesized = do
-    mark sign.LeftParen
-    inner ← nested Whole
-    mark sign.RightParen
-    gives inner
-
   -- name "(" ("*" | disjunction) ")"
   abbrev pub call : Line Expr
   call = do
     function ← name
-    mark sign.LeftParen
-    called ← (mark sign.Star >> gives (e.CallStar function)) or (e.Call function <$> nested Whole)
-    mark sign.RightParen
-    gives called
+    parenthesized (mark sign.Star >> gives (e.CallStar function) or e.Call function <$> nested Whole)
 
   unfoldable pub primary : Line Expr
-  primary = one constant_of or column or call or parenthesized
+  primary = e.Literal <$> literal or e.Param <$> parameter or column or call or parenthesized (nested Whole)
 
   -- a `-` directly before a number makes a negative literal
   unfoldable pub signed : Line Expr
-  signed = (mark sign.Minus >> negative_number <$> one digits_of)
-      or (mark sign.Minus >> unless digits_of >> e.Minus <$> nested Signed)
+  signed = mark sign.Minus >> (λ digits. e.Literal (literal_of.Number (record { negative = true; digits = digits }))) <$> number
+      or mark sign.Minus >> unless number >> e.Minus <$> nested Signed
       or primary
 
   unfoldable pub product : Line Expr
-  product = chain (one multiplicative_of) signed
+  product = chain multiplicative signed
 
   unfoldable pub sum : Line Expr
-  sum = chain (one additive_of) product
+  sum = chain additive product
 
-  -- "(" list(disjunction) ")", behind IN
+  -- behind IN, and behind BETWEEN
   unfoldable pub in_list : Expr → Bool → Line Expr
-  in_list operand negated = do
-    mark sign.LeftParen
-    values ← list (nested Whole)
-    mark sign.RightParen
-    gives (e.InList operand values negated)
+  in_list operand negated = do mark sign.LeftParen; values ← list (nested Whole); mark sign.RightParen; gives (e.InList operand values negated)
 
-  -- sum AND sum, behind BETWEEN
   unfoldable pub between : Expr → Bool → Line Expr
-  between operand negated = do
-    low ← sum
-    key (codes "and")
-    high ← sum
-    gives (e.Between operand low high negated)
+  between operand negated = do low ← sum; key "and"; high ← sum; gives (e.Between operand low high negated)
 
   unfoldable pub membership : Line Expr
   membership = do
     operand ← sum
-    (do
-      negated ← said (codes "not")
-      key (codes "in") >> in_list operand negated)
-        or (do
-          negated ← said (codes "not")
-          key (codes "between") >> between operand negated)
+    (do negated ← said "not"; key "in" >> in_list operand negated)
+        or (do negated ← said "not"; key "between" >> between operand negated)
         or gives operand
 
   unfoldable pub comparison : Line Expr
   comparison = do
     left ← membership
-    (do
-      op ← one comparison_of
-      right ← membership
-      gives (e.Comparison op left right))
-        or gives left
+    (do op ← comparison_operator; right ← membership; gives (e.Comparison op left right)) or gives left
 
   unfoldable pub null_test : Line Expr
   null_test = do
     operand ← comparison
-    (do
-      key (codes "is")
-      negated ← said (codes "not")
-      key (codes "null")
-      gives (e.IsNull operand negated))
-        or gives operand
+    (do key "is"; negated ← said "not"; key "null"; gives (e.IsNull operand negated)) or gives operand
 
   unfoldable pub negation : Line Expr
-  negation = (key (codes "not") >> e.Not <$> nested Negated) or null_test
+  negation = key "not" >> e.Not <$> nested Negated or null_test
 
   unfoldable pub conjunction : Line Expr
-  conjunction = operation e.And <$> separated (key (codes "and")) negation
+  conjunction = operation e.And <$> separated (key "and") negation
 
   unfoldable pub disjunction : Line Expr
-  disjunction = operation e.Or <$> separated (key (codes "or")) conjunction
+  disjunction = operation e.Or <$> separated (key "or") conjunction
 
 -- an expression at a line of the grammar, in which others are nested no deeper than the number
 unfoldable pub within : ℕ → Level → Line Expr

@@ -8,5 +8,5 @@ pub mod Load
 pub mod Names
 pub mod Operators
 pub mod Reading
-pub mod Terminals
+pub mod Reserved
 pub mod Texts

@@ -1,42 +1,56 @@
 -- What the lines of a grammar are made of. A line says of tokens what they spell, and which tokens stand behind that.
-use Rattle.std.specs.Prelude.{◌≡◌, ◌⊎◌, Bool, true, false, List, [], ◌∷◌, Option, Some, None, is_some}
-use Rattle.sql_tokens.specs.declared.token.Token.{Token}
+use Rattle.std.specs.Prelude.{◌≡◌, ◌⊎◌, Bool, true, false, List, [], ◌∷◌, Option, Some, None, codes}
+use Prim.Native.String.{String}
 use Rattle.sql_tokens.specs.declared.token.Token.TheVariants as token
 use Rattle.sql_tokens.specs.declared.token.Sign.{Sign}
 use Rattle.sql_tokens.specs.declared.token.Sign.TheVariants as sign
+use Rattle.sql_expr.specs.Reserved.{is_reserved}
 use Rattle.sql_expr.specs.Texts.{Text, Tokens}
 
 abbrev pub Line : Type 0 → Type 1
 Line A = Tokens → A → Tokens → Type 0
 
--- nothing is spelt so
-abbrev pub nowhere : {A : Type 0} → Line A
-nowhere ts a us = ⊥
+-- ---- one token, and what it gives
 
--- no token, which gives the value
-abbrev pub gives : {A : Type 0} → A → Line A
-gives value ts a us = (a ≡ value) × (us ≡ ts)
-
--- a token that stands for the value
-abbrev pub one : {A : Type 0} → (Token → Option A) → Line A
-one value_of ts a us = (t : Token) × (ts ≡ t ∷ us) × (value_of t ≡ Some a)
+abbrev pub word : Text → Line (Unit {0})
+word w ts u us = ts ≡ token.Word w ∷ us
 
 -- a keyword
-abbrev pub key : Text → Line (Unit {0})
-key word ts u us = ts ≡ token.Word word ∷ us
+abbrev pub key : String → Line (Unit {0})
+key w = word (codes w)
 
 abbrev pub mark : Sign → Line (Unit {0})
 mark s ts u us = ts ≡ token.Sign s ∷ us
 
--- no token, where the next one stands for no value
-abbrev pub stands_for : {A : Type 0} → (Token → Option A) → Tokens → Bool
-stands_for value_of [] = false
-stands_for value_of (t ∷ ts) = is_some (value_of t)
+-- a word that isn't reserved, or a quoted identifier
+abbrev pub name : Line Text
+name ts n us = ((ts ≡ token.Word n ∷ us) × (is_reserved n ≡ false)) ⊎ (ts ≡ token.Quoted n ∷ us)
 
-abbrev pub unless : {A : Type 0} → (Token → Option A) → Line (Unit {0})
-unless value_of ts u us = (us ≡ ts) × (stands_for value_of ts ≡ false)
+abbrev pub number : Line Text
+number ts digits us = ts ≡ token.Number digits ∷ us
 
--- ---- lines one behind another
+abbrev pub string : Line Text
+string ts text us = ts ≡ token.Text text ∷ us
+
+abbrev pub parameter : Line Text
+parameter ts digits us = ts ≡ token.Param digits ∷ us
+
+-- ---- no token, or nothing at all
+
+abbrev pub nowhere : {A : Type 0} → Line A
+nowhere ts a us = ⊥
+
+abbrev pub gives : {A : Type 0} → A → Line A
+gives value ts a us = (a ≡ value) × (us ≡ ts)
+
+-- where P begins, and where it doesn't
+abbrev pub ahead : {A : Type 0} → Line A → Line (Unit {0})
+ahead {A = A} P ts u us = (us ≡ ts) × ((a : A) × (vs : Tokens) × P ts a vs)
+
+abbrev pub unless : {A : Type 0} → Line A → Line (Unit {0})
+unless {A = A} P ts u us = (us ≡ ts) × ((a : A) (vs : Tokens) → ¬ P ts a vs)
+
+-- ---- lines one behind another, one or another, and lists
 
 infixl 10 ◌>>=◌
 abbrev pub ◌>>=◌ : {A B : Type 0} → Line A → (A → Line B) → Line B
@@ -50,20 +64,24 @@ infixr 11 ◌<$>◌
 abbrev pub ◌<$>◌ : {A B : Type 0} → (A → B) → Line A → Line B
 f <$> P = P >>= (λ a. gives (f a))
 
--- ---- choices and lists
-
--- one line or another: `P | Q`
+-- `P | Q`
 infixr 9 ◌or◌
 abbrev pub ◌or◌ : {A : Type 0} → Line A → Line A → Line A
 (P or Q) ts a us = P ts a us ⊎ Q ts a us
 
--- `[P]`
+-- `[P]`, of a list too, and of a keyword
 abbrev pub maybe : {A : Type 0} → Line A → Line (Option A)
 maybe P = Some <$> P or gives None
 
--- `[KEYWORD]`, and whether it is written
-abbrev pub said : Text → Line Bool
-said word = key word >> gives true or gives false
+abbrev pub any : {A : Type 0} → Line (List A) → Line (List A)
+any P = P or gives []
+
+abbrev pub said : String → Line Bool
+said w = key w >> gives true or gives false
+
+-- `[KEYWORD]` where the word might be a name too: it is the keyword exactly where P follows
+abbrev pub before : {A : Type 0} → String → Line A → Line (Unit {0})
+before w P = key w >> ahead P or unless (key w >> P)
 
 -- `{P}`
 abbrev pub many : {A : Type 0} → Line A → Line (List A)
@@ -72,11 +90,11 @@ many P ts (a ∷ more) us = (middle : Tokens) × P ts a middle × many P middle 
 
 -- `P {separator P}`
 abbrev pub separated : {A : Type 0} → Line (Unit {0}) → Line A → Line (List A)
-separated separator P = do
-  first ← P
-  others ← many (separator >> P)
-  gives (first ∷ others)
+separated separator P = do first ← P; others ← many (separator >> P); gives (first ∷ others)
 
--- `list(P)`
+-- `list(P)`, and `"(" P ")"`
 abbrev pub list : {A : Type 0} → Line A → Line (List A)
 list P = separated (mark sign.Comma) P
+
+abbrev pub parenthesized : {A : Type 0} → Line A → Line A
+parenthesized P = do mark sign.LeftParen; inner ← P; mark sign.RightParen; gives inner

@@ -1,7 +1,15 @@
--- Names as they are read.
-use Rattle.std.specs.Prelude.{Bool, false, is_some, [], ◌∷◌, Option}
+-- Names as they are read: words that aren't reserved, and quoted identifiers.
+use Rattle.std.specs.Prelude.{Bool, false, is_some, [], ◌∷◌, Option, Some, None, if◌then◌else◌}
+use Rattle.sql_tokens.specs.declared.token.Token.{Token}
+use Rattle.sql_tokens.specs.declared.token.Token.TheVariants as token
 use Rattle.sql_expr.specs.Reading.{Text, Tokens, Parser, ◌>>=◌, taken, required}
-unfoldable pub use Rattle.sql_expr.specs.Terminals.{reserved_words, is_reserved, name_of}
+use Rattle.sql_expr.specs.Reserved.{is_reserved}
+
+-- the name that a token is
+abbrev pub name_of : Token → Option Text
+name_of (token.Word word) = if is_reserved word then None else Some word
+name_of (token.Quoted name) = Some name
+name_of _ = None
 
 unfoldable pub sees_name : Tokens → Bool
 sees_name [] = false

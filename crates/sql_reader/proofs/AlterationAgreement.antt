@@ -5,10 +5,10 @@ use Rattle.sql_tree.specs.declared.catalog.AlterAction.TheVariants as alteration
 use Rattle.sql_tree.specs.declared.catalog.SchemaCommand.TheVariants as schema
 use Rattle.sql_tree.specs.declared.command.Command.TheVariants as command
 use Rattle.sql_expr.specs.Reading.{Text, Tokens}
-use Rattle.sql_expr.specs.Lines.{Line, gives, key}
+use Rattle.sql_expr.specs.Lines.{Line, gives, word as a_word}
 use Rattle.sql_expr.specs.Lines as lines
 use Rattle.sql_expr.specs.Grammar.{name}
-use Rattle.sql_expr.specs.Names.{is_reserved}
+use Rattle.sql_expr.specs.Reserved.{is_reserved}
 use Rattle.sql_reader_catalog.specs.Alteration as spec
 use Rattle.sql_reader.specs.CatalogGrammar as grammar
 use Rattle.sql_expr.proofs.Heads.{Head}
@@ -25,17 +25,17 @@ abbrev set_type : Text → Line AlterAction
 set_type column = lines.◌<$>◌ (alteration.SetType column) name
 
 abbrev set_default : Text → Line AlterAction
-set_default column = lines.◌>>◌ (key (codes "default")) (lines.◌<$>◌ (alteration.SetDefault column) grammar.constant)
+set_default column = lines.◌>>◌ (a_word (codes "default")) (lines.◌<$>◌ (alteration.SetDefault column) grammar.constant)
 
 abbrev set_line : Text → Line AlterAction
-set_line column = lines.◌or◌ (lines.◌>>◌ (key (codes "data")) (lines.◌>>◌ (key (codes "type")) (set_type column)))
+set_line column = lines.◌or◌ (lines.◌>>◌ (a_word (codes "data")) (lines.◌>>◌ (a_word (codes "type")) (set_type column)))
     (lines.◌or◌ (set_default column) (lines.◌>>◌ grammar.not_null (gives (alteration.SetNotNull column))))
 
 abbrev drop_line : Text → Line AlterAction
-drop_line column = lines.◌or◌ (lines.◌>>◌ (key (codes "default")) (gives (alteration.DropDefault column))) (lines.◌>>◌ grammar.not_null (gives (alteration.DropNotNull column)))
+drop_line column = lines.◌or◌ (lines.◌>>◌ (a_word (codes "default")) (gives (alteration.DropDefault column))) (lines.◌>>◌ grammar.not_null (gives (alteration.DropNotNull column)))
 
 abbrev change_line : Text → Line AlterAction
-change_line column = lines.◌or◌ (lines.◌>>◌ (key (codes "type")) (set_type column)) (lines.◌or◌ (lines.◌>>◌ (key (codes "set")) (set_line column)) (lines.◌>>◌ (key (codes "drop")) (drop_line column)))
+change_line column = lines.◌or◌ (lines.◌>>◌ (a_word (codes "type")) (set_type column)) (lines.◌or◌ (lines.◌>>◌ (a_word (codes "set")) (set_line column)) (lines.◌>>◌ (a_word (codes "drop")) (drop_line column)))
 
 change-there : (column : Text) (ts : Tokens) (a : AlterAction) (us : Tokens) → change_line column ts a us → grammar.change column ts a us
 unfolding grammar.change
@@ -49,8 +49,8 @@ change-there column ts a us (inr (inr (u, middle, drop, inr rest))) = inr (inr (
 change-back : (column : Text) (ts : Tokens) (a : AlterAction) (us : Tokens) → grammar.change column ts a us → change_line column ts a us
 unfolding grammar.change
 change-back column ts a us (inl (found, end_of_set, inl (v, last, (u, middle, set, data_word), (value, end)), rest)) =
-    inr (inl (u, middle, set, inl (v, last, data_word, subst (λ vs. (lines.◌>>◌ (key (codes "type")) (set_type column)) vs a us) end rest)))
-change-back column ts a us (inl (found, end_of_set, inr (value, end), rest)) = inl (subst (λ vs. (lines.◌>>◌ (key (codes "type")) (set_type column)) vs a us) end rest)
+    inr (inl (u, middle, set, inl (v, last, data_word, subst (λ vs. (lines.◌>>◌ (a_word (codes "type")) (set_type column)) vs a us) end rest)))
+change-back column ts a us (inl (found, end_of_set, inr (value, end), rest)) = inl (subst (λ vs. (lines.◌>>◌ (a_word (codes "type")) (set_type column)) vs a us) end rest)
 change-back column ts a us (inr (inl (u, middle, set, rest))) = inr (inl (u, middle, set, inr (inl rest)))
 change-back column ts a us (inr (inr (inl (u, middle, drop, rest)))) = inr (inr (u, middle, drop, inl rest))
 change-back column ts a us (inr (inr (inr (inl (u, middle, set, rest))))) = inr (inl (u, middle, set, inr (inr rest)))
@@ -59,14 +59,14 @@ change-back column ts a us (inr (inr (inr (inr (u, middle, drop, rest))))) = inr
 -- ---- actions, in the order in which they are read
 
 abbrev behind_column : Line AlterAction → Line AlterAction
-behind_column P = lines.◌>>◌ (lines.maybe (key (codes "column"))) P
+behind_column P = lines.◌>>◌ (lines.maybe (a_word (codes "column"))) P
 
 abbrev rename_line : Line AlterAction
-rename_line = lines.◌or◌ (lines.◌>>◌ (key (codes "to")) (lines.◌<$>◌ alteration.RenameTo name)) (behind_column renamed_column)
+rename_line = lines.◌or◌ (lines.◌>>◌ (a_word (codes "to")) (lines.◌<$>◌ alteration.RenameTo name)) (behind_column renamed_column)
 
 abbrev action_line : Line AlterAction
-action_line = lines.◌or◌ (lines.◌>>◌ (key (codes "add")) (behind_column added)) (lines.◌or◌ (lines.◌>>◌ (key (codes "drop")) (behind_column dropped)) (lines.◌or◌ (lines.◌>>◌ (key (codes "rename")) rename_line)
-    (lines.◌or◌ (lines.◌>>◌ (key (codes "set")) (lines.◌>>◌ (key (codes "schema")) (lines.◌<$>◌ alteration.SetSchema name))) (lines.◌>>◌ (key (codes "alter")) (behind_column altered)))))
+action_line = lines.◌or◌ (lines.◌>>◌ (a_word (codes "add")) (behind_column added)) (lines.◌or◌ (lines.◌>>◌ (a_word (codes "drop")) (behind_column dropped)) (lines.◌or◌ (lines.◌>>◌ (a_word (codes "rename")) rename_line)
+    (lines.◌or◌ (lines.◌>>◌ (a_word (codes "set")) (lines.◌>>◌ (a_word (codes "schema")) (lines.◌<$>◌ alteration.SetSchema name))) (lines.◌>>◌ (a_word (codes "alter")) (behind_column altered)))))
 
 action-there : (ts : Tokens) (a : AlterAction) (us : Tokens) → action_line ts a us → grammar.action ts a us
 unfolding grammar.action

@@ -6,7 +6,7 @@ use Rattle.sql_expr.specs.Reading.{Tokens, Parser, ◌>>=◌, pure, eat_word}
 use Rattle.sql_expr.specs.Names.{sees_name}
 use Rattle.sql_expr.specs.Names as names
 use Rattle.sql_expr.specs.Grammar as expression
-use Rattle.sql_expr.specs.Lines.{Line, gives, key}
+use Rattle.sql_expr.specs.Lines.{Line, gives, word as a_word}
 use Rattle.sql_expr.specs.Lines as lines
 use Rattle.sql_reader_session.specs.Blocks as spec
 use Rattle.sql_reader.specs.BlockGrammar as grammar
@@ -28,7 +28,7 @@ abbrev rest_read : Parser Command
 rest_read = eat_word (codes "to") >>= (λ to. cond to (spec.savepoint_name >>= (λ found. pure (command.RollbackTo found))) (pure command.Rollback))
 
 abbrev rest_line : Line Command
-rest_line = lines.◌or◌ (lines.◌>>◌ (key (codes "to")) (lines.◌<$>◌ command.RollbackTo grammar.savepoint_name)) (gives command.Rollback)
+rest_line = lines.◌or◌ (lines.◌>>◌ (a_word (codes "to")) (lines.◌<$>◌ command.RollbackTo grammar.savepoint_name)) (gives command.Rollback)
 
 module _ {n : ℕ} where
   pub agrees-begin : Agrees (Unit {0}) n spec.begin grammar.begin 0 work_heads work_words

@@ -9,8 +9,8 @@ use Rattle.sql_reader_query.specs.declared.changes.Change.{Change}
 use Rattle.sql_reader_query.specs.declared.changes.Change.TheVariants.{Update, Delete}
 use Rattle.sql_reader_query.specs.declared.changes.InsertTarget.{InsertTarget}
 use Rattle.sql_expr.specs.Reading.{Text, Tokens, ◌>>=◌, ◌>>◌, pure, expect_word}
-use Rattle.sql_expr.specs.Names.{is_reserved}
-use Rattle.sql_expr.specs.Lines.{Line, gives, nowhere, key, mark, maybe, list}
+use Rattle.sql_expr.specs.Reserved.{is_reserved}
+use Rattle.sql_expr.specs.Lines.{Line, gives, nowhere, word as a_word, mark, maybe, list}
 use Rattle.sql_expr.specs.Lines as lines
 use Rattle.sql_expr.specs.Grammar as expression
 use Rattle.sql_reader_query.specs.Changes as spec
@@ -46,10 +46,10 @@ returning_tail = also (codes "where" ∷ codes "returning" ∷ []) [] outputs_ta
 -- ---- INSERT
 
 abbrev target_line : Line InsertTarget
-target_line = lines.◌>>◌ (key (codes "into")) (lines.◌>>=◌ names.relation (λ table. lines.◌>>=◌ (any names.parenthesized_names) (λ columns. gives (record { table = table; columns = columns }))))
+target_line = lines.◌>>◌ (a_word (codes "into")) (lines.◌>>=◌ names.relation (λ table. lines.◌>>=◌ (any names.parenthesized_names) (λ columns. gives (record { table = table; columns = columns }))))
 
 abbrev rows_line : QName → List Text → Line InsertTree
-rows_line table columns = lines.◌>>◌ (key (codes "values")) (lines.◌>>=◌ (list grammar.row) (λ rows. lines.◌>>=◌ grammar.returning (λ given. gives (record { table = table; columns = columns; rows = rows; returning = given }))))
+rows_line table columns = lines.◌>>◌ (a_word (codes "values")) (lines.◌>>=◌ (list grammar.row) (λ rows. lines.◌>>=◌ grammar.returning (λ given. gives (record { table = table; columns = columns; rows = rows; returning = given }))))
 
 there : (ts : Tokens) (i : InsertTree) (us : Tokens) → (lines.◌>>=◌ target_line (λ into. rows_line into.table into.columns)) ts i us → grammar.insertion ts i us
 unfolding grammar.insertion
@@ -83,14 +83,14 @@ agrees-target = agrees-bind (agrees-expect_word (codes "into")) (λ u. agrees-bi
 -- ---- UPDATE and DELETE
 
 change-there : (ts : Tokens) (c : Change) (us : Tokens)
-    → (lines.◌or◌ (lines.◌>>◌ (key (codes "update")) grammar.updated) (lines.◌or◌ (lines.◌>>◌ (key (codes "delete")) grammar.deleted) nowhere)) ts c us → grammar.changed ts c us
+    → (lines.◌or◌ (lines.◌>>◌ (a_word (codes "update")) grammar.updated) (lines.◌or◌ (lines.◌>>◌ (a_word (codes "delete")) grammar.deleted) nowhere)) ts c us → grammar.changed ts c us
 unfolding grammar.changed
 change-there ts c us (inl update) = inl update
 change-there ts c us (inr (inl delete)) = inr delete
 change-there ts c us (inr (inr none)) = absurd none
 
 change-back : (ts : Tokens) (c : Change) (us : Tokens) → grammar.changed ts c us
-    → (lines.◌or◌ (lines.◌>>◌ (key (codes "update")) grammar.updated) (lines.◌or◌ (lines.◌>>◌ (key (codes "delete")) grammar.deleted) nowhere)) ts c us
+    → (lines.◌or◌ (lines.◌>>◌ (a_word (codes "update")) grammar.updated) (lines.◌or◌ (lines.◌>>◌ (a_word (codes "delete")) grammar.deleted) nowhere)) ts c us
 unfolding grammar.changed
 change-back ts c us (inl update) = inl update
 change-back ts c us (inr delete) = inr (inl delete)
@@ -98,7 +98,7 @@ change-back ts c us (inr delete) = inr (inl delete)
 -- ---- WHERE CURRENT OF name
 
 abbrev position_line : Line Text
-position_line = lines.◌>>◌ (key (codes "where")) (lines.◌>>◌ (key (codes "current")) (lines.◌>>◌ (key (codes "of")) expression.name))
+position_line = lines.◌>>◌ (a_word (codes "where")) (lines.◌>>◌ (a_word (codes "current")) (lines.◌>>◌ (a_word (codes "of")) expression.name))
 
 abbrev positioned_line : Change → Line PositionedTree
 positioned_line c = lines.◌>>=◌ position_line (λ cursor. lines.◌>>=◌ grammar.returning (λ given. gives (record { statement = spec.statement_of c None given; cursor = cursor })))

@@ -6,10 +6,11 @@ use Rattle.sql_tokens.specs.declared.token.Token.TheVariants as token
 use Rattle.sql_tree.specs.declared.catalog.AlterAction.{AlterAction}
 use Rattle.sql_tree.specs.declared.catalog.AlterAction.TheVariants as alteration
 use Rattle.sql_expr.specs.Reading.{Text, Tokens, Parser, ◌>>◌, sees_word, behind}
-use Rattle.sql_expr.specs.Lines.{Line, key, many, maybe}
+use Rattle.sql_expr.specs.Lines.{Line, word as a_word, many, maybe}
 use Rattle.sql_expr.specs.Lines as lines
 use Rattle.sql_expr.specs.Grammar.{name}
-use Rattle.sql_expr.specs.Names.{name_of, sees_name, is_reserved}
+use Rattle.sql_expr.specs.Names.{name_of, sees_name}
+use Rattle.sql_expr.specs.Reserved.{is_reserved}
 use Rattle.sql_reader_catalog.specs.Keywords as spec
 use Rattle.sql_reader.specs.CatalogGrammar as grammar
 use Rattle.sql_expr.proofs.Heads.{Barred, Head, clear, begins, all_avoid, begins-clear, clear-begins, begins-left, begins-right, and-left, not-true}
@@ -30,7 +31,7 @@ pub record Settles {B : Type 0} (test : Tokens → Bool) (P : Line B) (tail : Ba
 -- `[COLUMN]` and what stands behind it
 pub agrees-column_word : {S : Type 0} {n : ℕ} {B : Type 0} {test : Tokens → Bool} {p : Parser B} {P : Line B} {k : ℕ} {heads : List Head} {tail : Barred}
     → Settles test P tail → Agrees S n p P k heads tail
-    → Agrees S n (spec.skip_where test >> p) (lines.◌>>◌ (maybe (key (codes "column"))) P) k (Head.word (codes "column") ∷ heads) tail
+    → Agrees S n (spec.skip_where test >> p) (lines.◌>>◌ (maybe (a_word (codes "column"))) P) k (Head.word (codes "column") ∷ heads) tail
 agrees-column_word {S = S} {n = n} {B = B} {test = test} {p = p} {P = P} {k = k} {heads = heads} {tail = tail} settled each = record {
   sound = λ s ts b us read. by-sound s ts b us (test ts) refl read;
   complete = λ ts b us within spelt c. by-complete ts b us within spelt c;
@@ -38,11 +39,11 @@ agrees-column_word {S = S} {n = n} {B = B} {test = test} {p = p} {P = P} {k = k}
   takes = λ ts b us spelt. by-takes ts b us spelt;
 }
   where
-    by-sound : S → (ts : Tokens) (b : B) (us : Tokens) (t : Bool) → test ts ≡ t → p (behind t ts) ≡ Some (b, us) → (lines.◌>>◌ (maybe (key (codes "column"))) P) ts b us
+    by-sound : S → (ts : Tokens) (b : B) (us : Tokens) (t : Bool) → test ts ≡ t → p (behind t ts) ≡ Some (b, us) → (lines.◌>>◌ (maybe (a_word (codes "column"))) P) ts b us
     by-sound s ts b us true q read = (Some tt, drop 1 ts, inl (tt, drop 1 ts, word-seen (codes "column") ts (settled.only ts q), (refl, refl)), each.sound s (drop 1 ts) b us read)
     by-sound s ts b us false q read = (None, ts, inr (refl, refl), each.sound s ts b us read)
 
-    by-complete : (ts : Tokens) (b : B) (us : Tokens) → length ts ≤ n → (lines.◌>>◌ (maybe (key (codes "column"))) P) ts b us → clear tail us ≡ true → p (behind (test ts) ts) ≡ Some (b, us)
+    by-complete : (ts : Tokens) (b : B) (us : Tokens) → length ts ≤ n → (lines.◌>>◌ (maybe (a_word (codes "column"))) P) ts b us → clear tail us ≡ true → p (behind (test ts) ts) ≡ Some (b, us)
     by-complete ts b us within (o, middle, inl (u, last, first, (value, end)), front) c =
         let here = first ∙ ap (λ vs. token.Word (codes "column") ∷ vs) (sym end) in
         let shorter = ap length here in
@@ -51,11 +52,11 @@ agrees-column_word {S = S} {n = n} {B = B} {test = test} {p = p} {P = P} {k = k}
         let same = ap length end in
         ap (λ t. p (behind t ts)) (ap test (sym end) ∙ settled.named middle b us front c) ∙ (ap p (sym end) ∙ each.complete middle b us (omega (arith, same)) front c)
 
-    by-starts : (ts : Tokens) (b : B) (us : Tokens) → (lines.◌>>◌ (maybe (key (codes "column"))) P) ts b us → clear tail us ≡ true → begins (Head.word (codes "column") ∷ heads) ts ≡ true
+    by-starts : (ts : Tokens) (b : B) (us : Tokens) → (lines.◌>>◌ (maybe (a_word (codes "column"))) P) ts b us → clear tail us ≡ true → begins (Head.word (codes "column") ∷ heads) ts ≡ true
     by-starts ts b us (o, middle, inl (u, last, first, same), front) c = begins-left (Head.word (codes "column") ∷ []) heads ts ((tests-word (codes "column")).known ts u last first).3
     by-starts ts b us (o, middle, inr (value, end), front) c = begins-right (Head.word (codes "column") ∷ []) heads ts (subst (λ vs. begins heads vs ≡ true) end (each.starts middle b us front c))
 
-    by-takes : (ts : Tokens) (b : B) (us : Tokens) → (lines.◌>>◌ (maybe (key (codes "column"))) P) ts b us → k + length us ≤ length ts
+    by-takes : (ts : Tokens) (b : B) (us : Tokens) → (lines.◌>>◌ (maybe (a_word (codes "column"))) P) ts b us → k + length us ≤ length ts
     by-takes ts b us (o, middle, inl (u, last, first, (value, end)), front) =
         let shorter = ap length first in let same = ap length end in let more = each.takes middle b us front in omega (arith, shorter, same, more)
     by-takes ts b us (o, middle, inr (value, end), front) = let same = ap length end in let more = each.takes middle b us front in omega (arith, same, more)

@@ -15,7 +15,7 @@ use Rattle.sql_tokens.specs.declared.token.Token.TheVariants as token
 use Rattle.sql_tree.specs.declared.command.Command.{Command}
 use Rattle.sql_expr.specs.Load.{load_of}
 use Rattle.sql_expr.specs.Reading.{Text, Tokens, Outcome, Parser}
-use Rattle.sql_expr.specs.Lines.{Line, key}
+use Rattle.sql_expr.specs.Lines.{Line, word as a_word}
 use Rattle.sql_expr.specs.Lines as lines
 use Rattle.sql_reader.specs.declared.leading.Keyword.{Keyword}
 use Rattle.sql_reader.specs.Leading.{leading_words, keyword_of}
@@ -169,7 +169,7 @@ command-sound (token.Param x ∷ ts) c us e = cc
 -- ---- what is spelt is read
 
 behind_word : {run : Parser Command} {P : Line Command} {k : ℕ} {heads : List Head} {tail : Barred} (w : Text) → ((n : ℕ) → Agrees (Unit {0}) n run P k heads tail)
-    → ((ts : Tokens) → spec.command (token.Word w ∷ ts) ≡ run ts) → (ts : Tokens) (c : Command) → (lines.◌>>◌ (key w) P) ts c [] → spec.command ts ≡ Some (c, [])
+    → ((ts : Tokens) → spec.command (token.Word w ∷ ts) ≡ run ts) → (ts : Tokens) (c : Command) → (lines.◌>>◌ (a_word w) P) ts c [] → spec.command ts ≡ Some (c, [])
 behind_word w agrees begins ts c (u, behind, here, rest) = ap spec.command here ∙ (begins behind ∙ (agrees (length behind)).complete behind c [] (omega arith) rest refl)
 
 statement-word : (w : Text) (ts : Tokens) → (bytes_eq w (codes "select") || (bytes_eq w (codes "insert") || (bytes_eq w (codes "update") || (bytes_eq w (codes "delete") || false)))) ≡ true

@@ -7,7 +7,7 @@ use Rattle.sql_tree.specs.declared.command.Command.{Command}
 use Rattle.sql_tree.specs.declared.command.Command.TheVariants as command
 use Rattle.sql_tree.specs.declared.statement.Statement.TheVariants as statement
 use Rattle.sql_expr.specs.Reading.{Tokens, Parser, and_then, ◌>>=◌, pure, behind, eat_word, sees_word}
-use Rattle.sql_expr.specs.Lines.{Line, gives, key, said}
+use Rattle.sql_expr.specs.Lines.{Line, gives, word as a_word, said}
 use Rattle.sql_expr.specs.Lines as lines
 use Rattle.sql_reader_query.specs.Names.{optional_names}
 use Rattle.sql_reader_catalog.specs.Creation as spec
@@ -25,18 +25,18 @@ use Rattle.sql_reader.proofs.TableAgreement.{agrees-table, agrees-temp_table}
 
 -- TEMP | TEMPORARY
 abbrev temporary : Line (Unit {0})
-temporary = lines.◌or◌ (key (codes "temp")) (key (codes "temporary"))
+temporary = lines.◌or◌ (a_word (codes "temp")) (a_word (codes "temporary"))
 
 temp-by : {B : Type 0} (f : Bool → Parser B) (b : Bool) (ts : Tokens) → and_then (cond {A = Parser Bool} b (pure true) (eat_word (codes "temporary")) (behind b ts)) f ≡ cond {A = Parser B} b (f true) (eat_word (codes "temporary") >>= f) (behind b ts)
 temp-by f true ts = refl
 temp-by f false ts = refl
 
-temp-there : {B : Type 0} (P Q : Line B) (ts : Tokens) (b : B) (us : Tokens) → (lines.◌or◌ (lines.◌>>◌ (key (codes "temp")) P) (lines.◌or◌ (lines.◌>>◌ (key (codes "temporary")) P) Q)) ts b us → (lines.◌or◌ (lines.◌>>◌ temporary P) Q) ts b us
+temp-there : {B : Type 0} (P Q : Line B) (ts : Tokens) (b : B) (us : Tokens) → (lines.◌or◌ (lines.◌>>◌ (a_word (codes "temp")) P) (lines.◌or◌ (lines.◌>>◌ (a_word (codes "temporary")) P) Q)) ts b us → (lines.◌or◌ (lines.◌>>◌ temporary P) Q) ts b us
 temp-there P Q ts b us (inl (u, middle, front, rest)) = inl (u, middle, inl front, rest)
 temp-there P Q ts b us (inr (inl (u, middle, front, rest))) = inl (u, middle, inr front, rest)
 temp-there P Q ts b us (inr (inr other)) = inr other
 
-temp-back : {B : Type 0} (P Q : Line B) (ts : Tokens) (b : B) (us : Tokens) → (lines.◌or◌ (lines.◌>>◌ temporary P) Q) ts b us → (lines.◌or◌ (lines.◌>>◌ (key (codes "temp")) P) (lines.◌or◌ (lines.◌>>◌ (key (codes "temporary")) P) Q)) ts b us
+temp-back : {B : Type 0} (P Q : Line B) (ts : Tokens) (b : B) (us : Tokens) → (lines.◌or◌ (lines.◌>>◌ temporary P) Q) ts b us → (lines.◌or◌ (lines.◌>>◌ (a_word (codes "temp")) P) (lines.◌or◌ (lines.◌>>◌ (a_word (codes "temporary")) P) Q)) ts b us
 temp-back P Q ts b us (inl (u, middle, inl front, rest)) = inl (u, middle, front, rest)
 temp-back P Q ts b us (inl (u, middle, inr front, rest)) = inr (inl (u, middle, front, rest))
 temp-back P Q ts b us (inr other) = inr (inr other)
@@ -49,7 +49,7 @@ agrees-temp {p = p} {q = q} {P = P} {Q = Q} found_so not_so apart_first apart_se
     (agrees-word (codes "temp") found_so (agrees-word (codes "temporary") found_so not_so apart_second) apart_first))
 
 -- `[UNIQUE]` before what begins with another word, and another line
-unique-there : {B : Type 0} (R : Bool → Line B) (Q : Line B) (ts : Tokens) (b : B) (us : Tokens) → (lines.◌or◌ (lines.◌>>◌ (key (codes "unique")) (R true)) (lines.◌or◌ (R false) Q)) ts b us → (lines.◌or◌ (lines.◌>>=◌ (said (codes "unique")) R) Q) ts b us
+unique-there : {B : Type 0} (R : Bool → Line B) (Q : Line B) (ts : Tokens) (b : B) (us : Tokens) → (lines.◌or◌ (lines.◌>>◌ (a_word (codes "unique")) (R true)) (lines.◌or◌ (R false) Q)) ts b us → (lines.◌or◌ (lines.◌>>=◌ (said "unique") R) Q) ts b us
 unique-there R Q ts b us (inl (u, middle, front, rest)) = inl (true, middle, inl (u, middle, front, (refl, refl)), rest)
 unique-there R Q ts b us (inr (inl rest)) = inl (false, ts, inr (refl, refl), rest)
 unique-there R Q ts b us (inr (inr other)) = inr other
@@ -57,7 +57,7 @@ unique-there R Q ts b us (inr (inr other)) = inr other
 moved : {A B : Type 0} (R : A → Line B) (x y : A) (ts vs : Tokens) (b : B) (us : Tokens) → x ≡ y → ts ≡ vs → R x ts b us → R y vs b us
 moved R x y ts vs b us same here rest = subst (λ z. R z vs b us) same (subst (λ ws. R x ws b us) here rest)
 
-unique-back : {B : Type 0} (R : Bool → Line B) (Q : Line B) (ts : Tokens) (b : B) (us : Tokens) → (lines.◌or◌ (lines.◌>>=◌ (said (codes "unique")) R) Q) ts b us → (lines.◌or◌ (lines.◌>>◌ (key (codes "unique")) (R true)) (lines.◌or◌ (R false) Q)) ts b us
+unique-back : {B : Type 0} (R : Bool → Line B) (Q : Line B) (ts : Tokens) (b : B) (us : Tokens) → (lines.◌or◌ (lines.◌>>=◌ (said "unique") R) Q) ts b us → (lines.◌or◌ (lines.◌>>◌ (a_word (codes "unique")) (R true)) (lines.◌or◌ (R false) Q)) ts b us
 unique-back R Q ts b us (inl (x, middle, inl (u, last, front, (value, end)), rest)) = inl (u, last, front, moved R x true middle last b us value end rest)
 unique-back R Q ts b us (inl (x, middle, inr (value, end), rest)) = inr (inl (moved R x false middle ts b us value end rest))
 unique-back R Q ts b us (inr other) = inr (inr other)
@@ -88,7 +88,7 @@ module _ {n : ℕ} where
   agrees-index unique = agrees-fewer 1 (omega arith) (agrees-bind agrees-name (λ name. agrees-bind (agrees-expect_word (codes "on")) (λ u. agrees-bind agrees-relation (λ table.
       agrees-bind agrees-parenthesized_names (λ columns. agrees-pure (record { name = name; unique = unique; table = table; columns = columns }) nothing) refl) refl) refl) refl)
 
-  agrees-or_replace : Agrees (Unit {0}) n spec.or_replace (lines.◌or◌ (lines.◌>>◌ (key (codes "or")) (lines.◌>>◌ (key (codes "replace")) (gives true))) (gives false)) 0 view_heads create_words
+  agrees-or_replace : Agrees (Unit {0}) n spec.or_replace (lines.◌or◌ (lines.◌>>◌ (a_word (codes "or")) (lines.◌>>◌ (a_word (codes "replace")) (gives true))) (gives false)) 0 view_heads create_words
   unfolding spec.or_replace
   agrees-or_replace = agrees-word (codes "or") (agrees-bind (agrees-expect_word (codes "replace")) (λ u. agrees-pure true create_words) refl) (agrees-pure false create_words) refl
 
@@ -97,7 +97,7 @@ module _ {n : ℕ} where
   agrees-optional_names = agrees-sign sign.LeftParen (agrees-wider opened refl agrees-enclosed_names) (agrees-pure [] opened) refl
 
 abbrev indexed : Bool → Line Command
-indexed unique = lines.◌>>◌ (key (codes "index")) (lines.◌<$>◌ command.CreateIndex (grammar.index unique))
+indexed unique = lines.◌>>◌ (a_word (codes "index")) (lines.◌<$>◌ command.CreateIndex (grammar.index unique))
 
 -- the tokens that could go on with it
 abbrev pub create_tail : Barred

@@ -11,7 +11,8 @@ use Rattle.sql_tree.specs.declared.cursors.CursorOptions.{CursorOptions}
 use Rattle.sql_tree.specs.declared.select.Select.{Select}
 use Rattle.sql_tree.specs.declared.statement.Statement.TheVariants as statement
 use Rattle.sql_expr.specs.Reading.{Text, Tokens, Parser, ◌>>◌, pure, taken, goes_on, behind, expect_word, sees_word}
-use Rattle.sql_expr.specs.Lines.{Line, gives, one, key, many}
+use Rattle.sql_expr.specs.Lines.{Line, gives, word as a_word, many}
+use Rattle.sql_expr.proofs.Agreement.{one}
 use Rattle.sql_expr.specs.Lines as lines
 use Rattle.sql_expr.specs.Grammar as expression
 use Rattle.sql_reader_session.specs.declared.cursors.CursorOption.{CursorOption}
@@ -177,7 +178,7 @@ options-complete (suc turns) options ts (a ∷ found) us enough spelt c =
 
 -- CURSOR [(WITH | WITHOUT) HOLD] FOR
 abbrev for_line : Line Bool
-for_line = lines.◌>>◌ (key (codes "cursor")) (lines.◌>>=◌ grammar.hold (λ held. lines.◌>>◌ (key (codes "for")) (gives held)))
+for_line = lines.◌>>◌ (a_word (codes "cursor")) (lines.◌>>=◌ grammar.hold (λ held. lines.◌>>◌ (a_word (codes "for")) (gives held)))
 
 abbrev declared : Text → CursorOptions → Bool → Select → Command
 declared cursor options held query = command.Declare (record { name = cursor; options = options; hold = held; query = statement.Select query })
@@ -208,7 +209,7 @@ module _ {n : ℕ} where
   unfolding spec.hold
   agrees-hold = agrees-word (codes "with") (held true) (agrees-word (codes "without") (held false) (agrees-pure false bar_hold) refl) refl
     where
-      held : (with_it : Bool) → Agrees (Unit {0}) n (expect_word (codes "hold") >> pure with_it) (lines.◌>>◌ (key (codes "hold")) (gives with_it)) 1 (Head.word (codes "hold") ∷ []) bar_hold
+      held : (with_it : Bool) → Agrees (Unit {0}) n (expect_word (codes "hold") >> pure with_it) (lines.◌>>◌ (a_word (codes "hold")) (gives with_it)) 1 (Head.word (codes "hold") ∷ []) bar_hold
       held with_it = agrees-bind (agrees-expect_word (codes "hold")) (λ u. agrees-pure with_it bar_hold) refl
 
   agrees-cursor_for : Agrees (Unit {0}) n spec.cursor_for for_line 2 (Head.word (codes "cursor") ∷ []) nothing

@@ -4,8 +4,8 @@ use Rattle.sql_tokens.specs.declared.token.Sign.TheVariants as sign
 use Rattle.sql_tree.specs.declared.select.Join.{Join}
 use Rattle.sql_tree.specs.declared.select.Join.TheVariants.{Inner, Cross}
 use Rattle.sql_expr.specs.Reading.{Tokens, Parser, ◌>>=◌, ◌>>◌, ◌<$>◌, refuse, eat_word, expect_word}
-use Rattle.sql_expr.specs.Names.{is_reserved}
-use Rattle.sql_expr.specs.Lines.{Line, gives, nowhere, key, maybe}
+use Rattle.sql_expr.specs.Reserved.{is_reserved}
+use Rattle.sql_expr.specs.Lines.{Line, gives, nowhere, word as a_word, maybe}
 use Rattle.sql_expr.specs.Lines as lines
 use Rattle.sql_expr.specs.Grammar as expression
 use Rattle.sql_reader_query.specs.Lists as spec_lists
@@ -33,11 +33,11 @@ agrees-item = agrees-bind agrees-relation (λ table. agrees-bind (agrees-alias i
 
 -- behind JOIN
 abbrev inner_line : Line Join
-inner_line = lines.◌>>=◌ grammar.item (λ joined. lines.◌>>◌ (key (codes "on")) (lines.◌>>=◌ expression.expression (λ condition. gives (Inner joined condition))))
+inner_line = lines.◌>>=◌ grammar.item (λ joined. lines.◌>>◌ (a_word (codes "on")) (lines.◌>>=◌ expression.expression (λ condition. gives (Inner joined condition))))
 
 -- behind CROSS
 abbrev cross_line : Line Join
-cross_line = lines.◌>>◌ (key (codes "join")) (lines.◌>>=◌ grammar.item (λ joined. gives (Cross joined)))
+cross_line = lines.◌>>◌ (a_word (codes "join")) (lines.◌>>=◌ grammar.item (λ joined. gives (Cross joined)))
 
 -- a join, or else what is read and spelt otherwise
 abbrev join_or : Parser (Option Join) → Parser (Option Join)
@@ -51,9 +51,9 @@ join_or other = do
 
 abbrev factored : Line (Option Join) → Line (Option Join)
 factored other =
-    lines.◌or◌ (lines.◌>>◌ (key (codes "cross")) (lines.◌<$>◌ Some cross_line))
-    (lines.◌or◌ (lines.◌>>◌ (key (codes "inner")) (lines.◌>>◌ (key (codes "join")) (lines.◌<$>◌ Some inner_line)))
-    (lines.◌or◌ (lines.◌>>◌ (key (codes "join")) (lines.◌<$>◌ Some inner_line)) other))
+    lines.◌or◌ (lines.◌>>◌ (a_word (codes "cross")) (lines.◌<$>◌ Some cross_line))
+    (lines.◌or◌ (lines.◌>>◌ (a_word (codes "inner")) (lines.◌>>◌ (a_word (codes "join")) (lines.◌<$>◌ Some inner_line)))
+    (lines.◌or◌ (lines.◌>>◌ (a_word (codes "join")) (lines.◌<$>◌ Some inner_line)) other))
 
 join-there : (other : Line (Option Join)) (ts : Tokens) (o : Option Join) (us : Tokens) → factored other ts o us → (lines.◌or◌ (lines.◌<$>◌ Some grammar.join) other) ts o us
 unfolding grammar.join
@@ -120,6 +120,6 @@ module _ {n : ℕ} where
   unfolding spec.chain grammar.chain is_reserved
   agrees-chain = agrees-bind agrees-item (λ first. agrees-bind agrees-joins (λ further. agrees-pure (record { first = first; joins = further }) chain_tail) refl) refl
 
-  pub agrees-from : Agrees (Unit {0}) n spec.from (grammar.any (lines.◌>>◌ (key (codes "from")) (lines.list grammar.chain))) 0 (Head.word (codes "from") ∷ Head.others from_tail ∷ []) from_tail
+  pub agrees-from : Agrees (Unit {0}) n spec.from (grammar.any (lines.◌>>◌ (a_word (codes "from")) (lines.list grammar.chain))) 0 (Head.word (codes "from") ∷ Head.others from_tail ∷ []) from_tail
   unfolding spec.from spec_lists.listed
   agrees-from = agrees-any (codes "from") from_tail (agrees-list from_tail agrees-chain refl refl) refl refl

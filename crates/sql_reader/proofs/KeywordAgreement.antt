@@ -6,7 +6,8 @@ use Rattle.sql_tokens.specs.declared.token.Token.{Token}
 use Rattle.sql_tokens.specs.declared.token.Token.TheVariants as token
 use Rattle.sql_expr.specs.Reading.{Text, Tokens, Parser, ◌>>=◌, ◌>>◌, ◌<$>◌, pure, taken, taken_first, required, behind, eat_word, sees_word}
 use Rattle.sql_expr.specs.Names.{name_of, sees_name}
-use Rattle.sql_expr.specs.Lines.{Line, gives, one, unless, stands_for, key, maybe}
+use Rattle.sql_expr.specs.Lines.{Line, gives, unless, word as a_word, maybe}
+use Rattle.sql_expr.proofs.Agreement.{one, stands_for}
 use Rattle.sql_expr.specs.Lines as lines
 use Rattle.sql_reader_session.specs.Keywords.{eat_either}
 use Rattle.sql_expr.proofs.Heads.{Barred, Head, clear, begins, all_avoid, clear-begins, begins-left, begins-right, not-true}
@@ -45,18 +46,18 @@ least-of k = grind (arith, common_steps)
 -- `[FIRST | SECOND] Q`
 pub agrees-either : {S : Type 0} {n : ℕ} {B : Type 0} {q : Parser B} {Q : Line B} {k : ℕ} {heads : List Head} {tail : Barred} (first second : Text)
     → all_avoid (bar_word first) (Head.word second ∷ heads) ≡ true → all_avoid (bar_word second) heads ≡ true → Agrees S n q Q k heads tail
-    → Agrees S n (eat_either first second >> q) (lines.◌>>◌ (maybe (lines.◌or◌ (key first) (key second))) Q) k (Head.word first ∷ Head.word second ∷ heads) tail
+    → Agrees S n (eat_either first second >> q) (lines.◌>>◌ (maybe (lines.◌or◌ (a_word first) (a_word second))) Q) k (Head.word first ∷ Head.word second ∷ heads) tail
 agrees-either {S = S} {n = n} {B = B} {q = q} {Q = Q} {k = k} first second apart apart_too all = agrees-bracket (agrees-same there back (agrees-fewer k (least-of k)
     (agrees-test (λ found. cond found (pure true) (eat_word second) >>= (λ _. q)) (omega arith) (tests-word first) all (agrees-test (λ _. q) (omega arith) (tests-word second) all all apart_too) apart)))
   where
-    there : (ts : Tokens) (b : B) (us : Tokens) → (lines.◌or◌ (lines.◌>>◌ (key first) Q) (lines.◌or◌ (lines.◌>>◌ (key second) Q) Q)) ts b us
-        → (lines.◌or◌ (lines.◌>>◌ (lines.◌or◌ (key first) (key second)) Q) Q) ts b us
+    there : (ts : Tokens) (b : B) (us : Tokens) → (lines.◌or◌ (lines.◌>>◌ (a_word first) Q) (lines.◌or◌ (lines.◌>>◌ (a_word second) Q) Q)) ts b us
+        → (lines.◌or◌ (lines.◌>>◌ (lines.◌or◌ (a_word first) (a_word second)) Q) Q) ts b us
     there ts b us (inl (u, middle, front, rest)) = inl (u, middle, inl front, rest)
     there ts b us (inr (inl (u, middle, front, rest))) = inl (u, middle, inr front, rest)
     there ts b us (inr (inr rest)) = inr rest
 
-    back : (ts : Tokens) (b : B) (us : Tokens) → (lines.◌or◌ (lines.◌>>◌ (lines.◌or◌ (key first) (key second)) Q) Q) ts b us
-        → (lines.◌or◌ (lines.◌>>◌ (key first) Q) (lines.◌or◌ (lines.◌>>◌ (key second) Q) Q)) ts b us
+    back : (ts : Tokens) (b : B) (us : Tokens) → (lines.◌or◌ (lines.◌>>◌ (lines.◌or◌ (a_word first) (a_word second)) Q) Q) ts b us
+        → (lines.◌or◌ (lines.◌>>◌ (a_word first) Q) (lines.◌or◌ (lines.◌>>◌ (a_word second) Q) Q)) ts b us
     back ts b us (inl (u, middle, inl front, rest)) = inl (u, middle, front, rest)
     back ts b us (inl (u, middle, inr front, rest)) = inr (inl (u, middle, front, rest))
     back ts b us (inr rest) = inr (inr rest)
@@ -198,7 +199,7 @@ pub agrees-keyword : {S : Type 0} {n : ℕ} {B : Type 0} {P Q : Line B} {k m : �
     → ((us : Tokens) → begins ahead us ≡ true → follows us ≡ true)
     → ((ts : Tokens) (b : B) (us : Tokens) → Q ts b us → clear tail us ≡ true → sees_before w follows ts ≡ false)
     → Agrees S n (f true) P k ahead tail → Agrees S n (f false) Q m heads tail
-    → Agrees S n (eaten (sees_before w follows) >>= f) (lines.◌or◌ (lines.◌>>◌ (key w) P) Q) (min (suc k) m) (Head.word w ∷ heads) tail
+    → Agrees S n (eaten (sees_before w follows) >>= f) (lines.◌or◌ (lines.◌>>◌ (a_word w) P) Q) (min (suc k) m) (Head.word w ∷ heads) tail
 agrees-keyword {S = S} {B = B} {P = P} {Q = Q} {k = k} {m = m} {heads = heads} w follows f shown none found_so not_so = record {
   sound = λ s ts b us e. sound-by s ts b us (sees_before w follows ts) refl e;
   complete = λ ts b us within spelt c. ⊎_elim
@@ -223,7 +224,7 @@ agrees-keyword {S = S} {B = B} {P = P} {Q = Q} {k = k} {m = m} {heads = heads} w
       spelt;
 }
   where
-    sound-by : S → (ts : Tokens) (b : B) (us : Tokens) (found : Bool) → sees_before w follows ts ≡ found → f (sees_before w follows ts) (behind (sees_before w follows ts) ts) ≡ Some (b, us) → (lines.◌or◌ (lines.◌>>◌ (key w) P) Q) ts b us
+    sound-by : S → (ts : Tokens) (b : B) (us : Tokens) (found : Bool) → sees_before w follows ts ≡ found → f (sees_before w follows ts) (behind (sees_before w follows ts) ts) ≡ Some (b, us) → (lines.◌or◌ (lines.◌>>◌ (a_word w) P) Q) ts b us
     sound-by s ts b us true q e = inl (tt, drop 1 ts, (tests-word w).seen ts (both-left _ (follows (drop 1 ts)) q), found_so.sound s (drop 1 ts) b us (subst (λ x. f x (behind x ts) ≡ Some (b, us)) q e))
     sound-by s ts b us false q e = inr (not_so.sound s ts b us (subst (λ x. f x (behind x ts) ≡ Some (b, us)) q e))
 

@@ -11,7 +11,8 @@ use Rattle.sql_tree.specs.declared.select.RowCount.TheVariants.{Number, Param, N
 use Rattle.sql_expr.specs.Reading.{Text, Tokens, Parser, ◌>>=◌, ◌<$>◌, pure, taken, required, behind, eat_word, sees_word}
 use Rattle.sql_expr.specs.Literals as spec_literals
 use Rattle.sql_expr.specs.Literals.{digits_of, param_of}
-use Rattle.sql_expr.specs.Lines.{Line, gives, one, key, mark, maybe}
+use Rattle.sql_expr.specs.Lines.{Line, gives, word as a_word, mark, maybe}
+use Rattle.sql_expr.proofs.Agreement.{one}
 use Rattle.sql_expr.specs.Lines as lines
 use Rattle.sql_reader_query.specs.Limits as spec
 use Rattle.sql_reader.specs.QueryGrammar as grammar
@@ -79,7 +80,7 @@ count_heads = Head.word (codes "null") ∷ Head.param ∷ Head.sign sign.Minus �
 
 -- ALL | count
 abbrev limit_count : Line RowCount
-limit_count = lines.◌or◌ (lines.◌>>◌ (key (codes "all")) (gives Null)) grammar.count
+limit_count = lines.◌or◌ (lines.◌>>◌ (a_word (codes "all")) (gives Null)) grammar.count
 
 module _ {n : ℕ} where
   pub agrees-numeral : Agrees (Unit {0}) n spec_literals.numeral grammar.numeral 1 (Head.sign sign.Minus ∷ Head.number ∷ []) nothing
@@ -148,8 +149,8 @@ same-reading ts = by (sees_word (codes "limit") ts) refl
 
 abbrev factored : Line Limits
 factored =
-    lines.◌or◌ (lines.◌>>◌ (key (codes "limit")) (lines.◌>>=◌ limit_count (λ most. lines.◌>>=◌ grammar.offset (λ skipped. gives (record { limit = Some most; offset = skipped })))))
-    (lines.◌or◌ (lines.◌>>◌ (key (codes "offset")) (lines.◌>>=◌ (lines.◌<$>◌ Some grammar.count) (λ skipped. lines.◌>>=◌ grammar.limit (λ most. gives (record { limit = most; offset = skipped })))))
+    lines.◌or◌ (lines.◌>>◌ (a_word (codes "limit")) (lines.◌>>=◌ limit_count (λ most. lines.◌>>=◌ grammar.offset (λ skipped. gives (record { limit = Some most; offset = skipped })))))
+    (lines.◌or◌ (lines.◌>>◌ (a_word (codes "offset")) (lines.◌>>=◌ (lines.◌<$>◌ Some grammar.count) (λ skipped. lines.◌>>=◌ grammar.limit (λ most. gives (record { limit = most; offset = skipped })))))
     (gives (record { limit = None; offset = None })))
 
 there : (ts : Tokens) (l : Limits) (us : Tokens) → factored ts l us → grammar.limits ts l us

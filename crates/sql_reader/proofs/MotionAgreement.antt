@@ -11,10 +11,11 @@ use Rattle.sql_tree.specs.declared.command.Command.TheVariants as command
 use Rattle.sql_tree.specs.declared.cursors.Motion.{Motion}
 use Rattle.sql_tree.specs.declared.cursors.Motion.TheVariants as moves
 use Rattle.sql_expr.specs.Reading.{Text, Tokens, Outcome, Parser, and_then, ◌>>=◌, ◌<$>◌, pure, taken}
-use Rattle.sql_expr.specs.Lines.{Line, gives, one, unless, key, mark, maybe}
+use Rattle.sql_expr.specs.Lines.{Line, gives, unless, word as a_word, mark, maybe}
+use Rattle.sql_expr.proofs.Agreement.{one}
 use Rattle.sql_expr.specs.Lines as lines
 use Rattle.sql_expr.specs.Literals.{digits_of}
-use Rattle.sql_expr.specs.Names.{is_reserved}
+use Rattle.sql_expr.specs.Reserved.{is_reserved}
 use Rattle.sql_reader_session.specs.declared.motions.Direction.{Direction}
 use Rattle.sql_reader_session.specs.declared.motions.Direction.TheVariants as direction
 use Rattle.sql_reader_session.specs.Cursors as cursors
@@ -118,8 +119,8 @@ directed direction.Last = gives moves.Last
 directed direction.Absolute = lines.◌<$>◌ moves.Absolute grammar.integer
 directed direction.Relative = lines.◌<$>◌ moves.Relative grammar.integer
 directed direction.All = gives moves.All
-directed direction.Forward = lines.◌or◌ (lines.◌>>◌ (key (codes "all")) (gives moves.ForwardAll)) (lines.◌<$>◌ moves.Forward (maybe grammar.integer))
-directed direction.Backward = lines.◌or◌ (lines.◌>>◌ (key (codes "all")) (gives moves.BackwardAll)) (lines.◌<$>◌ moves.Backward (maybe grammar.integer))
+directed direction.Forward = lines.◌or◌ (lines.◌>>◌ (a_word (codes "all")) (gives moves.ForwardAll)) (lines.◌<$>◌ moves.Forward (maybe grammar.integer))
+directed direction.Backward = lines.◌or◌ (lines.◌>>◌ (a_word (codes "all")) (gives moves.BackwardAll)) (lines.◌<$>◌ moves.Backward (maybe grammar.integer))
 
 abbrev pub direction_heads : List Head
 direction_heads =
@@ -221,7 +222,7 @@ there ts a us (inl count) = inl (inr (inr (inr (inr (inr (inr (inl count)))))))
 there ts a us (inr (inr none)) = inr none
 there ts a us (inr (inl (d, middle, (t, e, v), rest))) = by t e v
   where
-    at : (w v : Text) (found : Direction) → ts ≡ token.Word w ∷ middle → (w ≡ v) × (d ≡ found) → (lines.◌>>◌ (key v) (directed found)) ts a us
+    at : (w v : Text) (found : Direction) → ts ≡ token.Word w ∷ middle → (w ≡ v) × (d ≡ found) → (lines.◌>>◌ (a_word v) (directed found)) ts a us
     at w v found e same = (tt, middle, subst (λ x. ts ≡ token.Word x ∷ middle) same.0 e, subst (λ x. directed x middle a us) same.1 rest)
 
     by : (t : Token) → ts ≡ t ∷ middle → direction_of t ≡ Some d → grammar.optional_motion ts a us

@@ -6,7 +6,8 @@ use Rattle.std.proofs.lemmas.List.{append_assoc, append-nil}
 use Rattle.sql_tokens.specs.declared.token.Token.{Token}
 use Rattle.sql_tokens.specs.declared.token.Sign.{Sign}
 use Rattle.sql_expr.specs.Reading.{Text, Tokens, Outcome, Parser, and_then, ◌>>=◌, ◌<$>◌, pure, refuse, taken, behind, eat_word, goes_on, sees_word}
-use Rattle.sql_expr.specs.Lines.{Line, gives, one, many, maybe, key}
+use Rattle.sql_expr.specs.Lines.{Line, gives, many, maybe, word as a_word}
+use Rattle.sql_expr.proofs.Agreement.{one}
 use Rattle.sql_expr.specs.Lines as lines
 use Rattle.sql_reader_query.specs.Lists.{looking}
 use Rattle.sql_reader.specs.QueryGrammar.{any}
@@ -41,29 +42,29 @@ min-second a b = grind (arith, common_steps)
 -- a word and what stands behind it, or else a value of its own
 pub agrees-optional : {S : Type 0} {n : ℕ} {A : Type 0} {p : Parser A} {P : Line A} {k : ℕ} {ahead : List Head} {stop : Barred} (w : Text) (value : A) (tail : Barred)
     → Agrees S n p P k ahead stop → all_avoid stop (Head.others tail ∷ []) ≡ true → all_avoid (bar_word w) (Head.others tail ∷ []) ≡ true
-    → Agrees S n (eat_word w >>= (λ found. cond found p (pure value))) (lines.◌or◌ (lines.◌>>◌ (key w) P) (gives value)) 0 (Head.word w ∷ Head.others tail ∷ []) tail
+    → Agrees S n (eat_word w >>= (λ found. cond found p (pure value))) (lines.◌or◌ (lines.◌>>◌ (a_word w) P) (gives value)) 0 (Head.word w ∷ Head.others tail ∷ []) tail
 agrees-optional {k = k} w value tail inner ends apart = agrees-fewer 0 (min-zero (suc k)) (agrees-word w (agrees-wider tail ends inner) (agrees-pure value tail) apart)
 
 maybe-there : {A : Type 0} (w : Text) (P : Line A) (ts : Tokens) (o : Option A) (us : Tokens)
-    → (lines.◌or◌ (lines.◌>>◌ (key w) (lines.◌<$>◌ Some P)) (gives None)) ts o us → (maybe (lines.◌>>◌ (key w) P)) ts o us
+    → (lines.◌or◌ (lines.◌>>◌ (a_word w) (lines.◌<$>◌ Some P)) (gives None)) ts o us → (maybe (lines.◌>>◌ (a_word w) P)) ts o us
 maybe-there w P ts o us (inl (u, middle, word, (a, rest, front, given))) = inl (a, rest, (u, middle, word, front), given)
 maybe-there w P ts o us (inr none) = inr none
 
 maybe-back : {A : Type 0} (w : Text) (P : Line A) (ts : Tokens) (o : Option A) (us : Tokens)
-    → (maybe (lines.◌>>◌ (key w) P)) ts o us → (lines.◌or◌ (lines.◌>>◌ (key w) (lines.◌<$>◌ Some P)) (gives None)) ts o us
+    → (maybe (lines.◌>>◌ (a_word w) P)) ts o us → (lines.◌or◌ (lines.◌>>◌ (a_word w) (lines.◌<$>◌ Some P)) (gives None)) ts o us
 maybe-back w P ts o us (inl (a, rest, (u, middle, word, front), given)) = inl (u, middle, word, (a, rest, front, given))
 maybe-back w P ts o us (inr none) = inr none
 
 pub agrees-maybe : {S : Type 0} {n : ℕ} {A : Type 0} {p : Parser A} {P : Line A} {k : ℕ} {ahead : List Head} {stop : Barred} (w : Text) (tail : Barred)
     → Agrees S n p P k ahead stop → all_avoid stop (Head.others tail ∷ []) ≡ true → all_avoid (bar_word w) (Head.others tail ∷ []) ≡ true
-    → Agrees S n (eat_word w >>= (λ found. cond found (Some <$> p) (pure None))) (maybe (lines.◌>>◌ (key w) P)) 0 (Head.word w ∷ Head.others tail ∷ []) tail
+    → Agrees S n (eat_word w >>= (λ found. cond found (Some <$> p) (pure None))) (maybe (lines.◌>>◌ (a_word w) P)) 0 (Head.word w ∷ Head.others tail ∷ []) tail
 agrees-maybe {P = P} {stop = stop} w tail inner ends apart = agrees-same (maybe-there w P) (maybe-back w P)
     (agrees-fewer 0 (min-zero _) (agrees-word w (agrees-bind inner (λ a. agrees-pure (Some a) tail) ends) (agrees-pure None tail) apart))
 
 -- a list behind a word, or none
 pub agrees-any : {S : Type 0} {n : ℕ} {A : Type 0} {p : Parser (List A)} {P : Line (List A)} {k : ℕ} {ahead : List Head} {stop : Barred} (w : Text) (tail : Barred)
     → Agrees S n p P k ahead stop → all_avoid stop (Head.others tail ∷ []) ≡ true → all_avoid (bar_word w) (Head.others tail ∷ []) ≡ true
-    → Agrees S n (eat_word w >>= (λ found. cond found p (pure []))) (any (lines.◌>>◌ (key w) P)) 0 (Head.word w ∷ Head.others tail ∷ []) tail
+    → Agrees S n (eat_word w >>= (λ found. cond found p (pure []))) (any (lines.◌>>◌ (a_word w) P)) 0 (Head.word w ∷ Head.others tail ∷ []) tail
 agrees-any w tail inner ends apart = agrees-optional w [] tail inner ends apart
 
 -- a token that stands for a value, or none

@@ -16,8 +16,9 @@ use Rattle.sql_expr.specs.Reading.{Text, Tokens, Parser, and_then, ◌>>=◌, �
 use Rattle.sql_expr.specs.Expressions as spec_expression
 use Rattle.sql_expr.specs.Literals.{digits_of}
 use Rattle.sql_expr.specs.Operators.{additive_of, multiplicative_of}
-use Rattle.sql_expr.specs.Names.{is_reserved, name_of, sees_name}
-use Rattle.sql_expr.specs.Lines.{Line, gives, key, mark, maybe, said}
+use Rattle.sql_expr.specs.Names.{name_of, sees_name}
+use Rattle.sql_expr.specs.Reserved.{is_reserved}
+use Rattle.sql_expr.specs.Lines.{Line, gives, word as a_word, mark, maybe, said}
 use Rattle.sql_expr.specs.Lines as lines
 use Rattle.sql_expr.specs.Grammar as expression
 use Rattle.sql_reader_query.specs.Lists as spec_lists
@@ -34,7 +35,7 @@ use Rattle.sql_reader.proofs.OptionalAgreement.{also, agrees-given, agrees-looki
 
 -- the line in the order in which it is read
 abbrev factored : Line (Option Text)
-factored = lines.◌or◌ (lines.◌>>◌ (key (codes "as")) (lines.◌<$>◌ Some expression.name)) (maybe expression.name)
+factored = lines.◌or◌ (lines.◌>>◌ (a_word (codes "as")) (lines.◌<$>◌ Some expression.name)) (maybe expression.name)
 
 alias-there : (ts : Tokens) (o : Option Text) (us : Tokens) → factored ts o us → grammar.alias ts o us
 unfolding grammar.alias

@@ -4,7 +4,7 @@ use Rattle.sql_tokens.specs.declared.token.Token.TheVariants as token
 use Rattle.sql_tree.specs.declared.catalog.KeyKind.TheVariants as kind
 use Rattle.sql_tree.specs.declared.catalog.Nullability.TheVariants as nullability
 use Rattle.sql_expr.specs.Reading.{Tokens, Parser, pure, sees_word}
-use Rattle.sql_expr.specs.Lines.{Line, nowhere, gives, key, many}
+use Rattle.sql_expr.specs.Lines.{Line, nowhere, gives, word as a_word, many}
 use Rattle.sql_expr.specs.Lines as lines
 use Rattle.sql_reader_catalog.specs.declared.columns.Part.{Part}
 use Rattle.sql_reader_catalog.specs.declared.columns.Part.TheVariants as variant
@@ -27,14 +27,14 @@ part_heads = Head.word (codes "not") ∷ Head.word (codes "null") ∷ Head.word 
 
 -- what is read if a part comes next
 abbrev key_line : Bool → Line (Option Part)
-key_line true = lines.◌or◌ (lines.◌>>◌ (key (codes "primary")) (lines.◌>>◌ (key (codes "key")) (gives (Some (variant.Key kind.Primary)))))
-    (lines.◌or◌ (lines.◌>>◌ (key (codes "unique")) (gives (Some (variant.Key kind.Unique)))) (gives None))
+key_line true = lines.◌or◌ (lines.◌>>◌ (a_word (codes "primary")) (lines.◌>>◌ (a_word (codes "key")) (gives (Some (variant.Key kind.Primary)))))
+    (lines.◌or◌ (lines.◌>>◌ (a_word (codes "unique")) (gives (Some (variant.Key kind.Unique)))) (gives None))
 key_line false = gives None
 
 abbrev part_line : Bool → Line (Option Part)
-part_line with_keys = lines.◌or◌ (lines.◌>>◌ (key (codes "not")) (lines.◌>>◌ (key (codes "null")) (gives (Some (variant.Nulls nullability.NotNull)))))
-    (lines.◌or◌ (lines.◌>>◌ (key (codes "null")) (gives (Some (variant.Nulls nullability.Null))))
-    (lines.◌or◌ (lines.◌>>◌ (key (codes "default")) (lines.◌<$>◌ (λ value. Some (variant.Default value)) grammar.constant)) (key_line with_keys)))
+part_line with_keys = lines.◌or◌ (lines.◌>>◌ (a_word (codes "not")) (lines.◌>>◌ (a_word (codes "null")) (gives (Some (variant.Nulls nullability.NotNull)))))
+    (lines.◌or◌ (lines.◌>>◌ (a_word (codes "null")) (gives (Some (variant.Nulls nullability.Null))))
+    (lines.◌or◌ (lines.◌>>◌ (a_word (codes "default")) (lines.◌<$>◌ (λ value. Some (variant.Default value)) grammar.constant)) (key_line with_keys)))
 
 -- more heads may be named
 pub agrees-heads : {S : Type 0} {n : ℕ} {A : Type 0} {p : Parser A} {P : Line A} {k : ℕ} {heads : List Head} {tail : Barred} (more : List Head)

@@ -7,9 +7,11 @@ use Rattle.sql_tokens.specs.declared.token.Sign.TheVariants as sign
 use Rattle.sql_tree.specs.declared.command.Command.{Command}
 use Rattle.sql_tree.specs.declared.command.Command.TheVariants as command
 use Rattle.sql_expr.specs.Reading.{Tokens, Parser, ◌>>=◌, ◌<$>◌, pure, refuse, eat_word, sees_word}
-use Rattle.sql_expr.specs.Lines.{Line, nowhere, gives, one, key}
+use Rattle.sql_expr.specs.Lines.{Line, nowhere, gives, word as a_word}
+use Rattle.sql_expr.proofs.Agreement.{one}
 use Rattle.sql_expr.specs.Lines as lines
-use Rattle.sql_expr.specs.Names.{is_reserved, name_of, sees_name}
+use Rattle.sql_expr.specs.Names.{name_of, sees_name}
+use Rattle.sql_expr.specs.Reserved.{is_reserved}
 use Rattle.sql_expr.specs.Names as names
 use Rattle.sql_expr.specs.Grammar as expression_grammar
 use Rattle.sql_reader_query.specs.Names.{optional_names}
@@ -34,7 +36,7 @@ abbrev target_read : Parser Command
 target_read = eat_word (codes "all") >>= (λ all. cond all (pure command.DeallocateAll) (command.Deallocate <$> names.name))
 
 abbrev target : Line Command
-target = lines.◌or◌ (lines.◌>>◌ (key (codes "all")) (gives command.DeallocateAll)) (lines.◌<$>◌ command.Deallocate expression_grammar.name)
+target = lines.◌or◌ (lines.◌>>◌ (a_word (codes "all")) (gives command.DeallocateAll)) (lines.◌<$>◌ command.Deallocate expression_grammar.name)
 
 abbrev target_heads : List Head
 target_heads = Head.word (codes "all") ∷ Head.name ∷ []
@@ -103,7 +105,7 @@ module _ {n : ℕ} where
       temp = agrees-pure command.DiscardTemp nothing
 
       ordered : Line Command
-      ordered = lines.◌or◌ (lines.◌>>◌ (key (codes "plans")) (gives command.DiscardPlans)) (lines.◌or◌ (lines.◌>>◌ (key (codes "temp")) (gives command.DiscardTemp)) (lines.◌or◌ (lines.◌>>◌ (key (codes "temporary")) (gives command.DiscardTemp)) nowhere))
+      ordered = lines.◌or◌ (lines.◌>>◌ (a_word (codes "plans")) (gives command.DiscardPlans)) (lines.◌or◌ (lines.◌>>◌ (a_word (codes "temp")) (gives command.DiscardTemp)) (lines.◌or◌ (lines.◌>>◌ (a_word (codes "temporary")) (gives command.DiscardTemp)) nowhere))
 
       there : (ts : Tokens) (c : Command) (us : Tokens) → ordered ts c us → grammar.discard ts c us
       there ts c us (inl plans) = inl plans
@@ -152,7 +154,7 @@ module _ {n : ℕ} where
   agrees-explain = agrees-same there back (agrees-word (codes "execute") (agrees-map command.ExplainExecute (agrees-wider statement_tail refl agrees-execute_tree)) (agrees-map command.Explain agrees-statement) refl)
     where
       ordered : Line Command
-      ordered = lines.◌or◌ (lines.◌>>◌ (key (codes "execute")) (lines.◌<$>◌ command.ExplainExecute grammar.execute_tree)) (lines.◌<$>◌ command.Explain statement)
+      ordered = lines.◌or◌ (lines.◌>>◌ (a_word (codes "execute")) (lines.◌<$>◌ command.ExplainExecute grammar.execute_tree)) (lines.◌<$>◌ command.Explain statement)
 
       there : (ts : Tokens) (c : Command) (us : Tokens) → ordered ts c us → grammar.explain ts c us
       there ts c us (inl executed) = inr executed

@@ -1,8 +1,8 @@
 -- Queries are read exactly where they are spelt.
 use Rattle.std.proofs.Common.{inl, inr, ℕ, Bool, true, false, [], ◌∷◌, codes, refl, arith}
 use Rattle.sql_expr.specs.Reading.{Tokens, pure}
-use Rattle.sql_expr.specs.Names.{is_reserved}
-use Rattle.sql_expr.specs.Lines.{Line, gives, key, list}
+use Rattle.sql_expr.specs.Reserved.{is_reserved}
+use Rattle.sql_expr.specs.Lines.{Line, gives, word as a_word, list}
 use Rattle.sql_expr.specs.Lines as lines
 use Rattle.sql_reader_query.specs.Lists as spec_lists
 use Rattle.sql_reader_query.specs.Query as spec
@@ -47,7 +47,7 @@ select_tail = also (codes "limit" ∷ codes "offset" ∷ []) [] order_tail
 -- ---- directions
 
 abbrev factored : Line Bool
-factored = lines.◌or◌ (lines.◌>>◌ (key (codes "desc")) (gives true)) (lines.◌or◌ (lines.◌>>◌ (key (codes "asc")) (gives false)) (gives false))
+factored = lines.◌or◌ (lines.◌>>◌ (a_word (codes "desc")) (gives true)) (lines.◌or◌ (lines.◌>>◌ (a_word (codes "asc")) (gives false)) (gives false))
 
 there : (ts : Tokens) (b : Bool) (us : Tokens) → factored ts b us → grammar.descending ts b us
 unfolding grammar.descending
@@ -95,7 +95,7 @@ module _ {n : ℕ} where
   agrees-key = agrees-bind agrees-expression (λ expr. agrees-bind agrees-descending (λ falls. agrees-bind (agrees-nulls_first falls)
       (λ first. agrees-pure (record { expr = expr; descending = falls; nulls_first = first }) key_tail) refl) refl) refl
 
-  agrees-order : Agrees (Unit {0}) n spec.order (grammar.any (lines.◌>>◌ (key (codes "order")) (lines.◌>>◌ (key (codes "by")) (list grammar.key)))) 0 (Head.word (codes "order") ∷ Head.others order_tail ∷ []) order_tail
+  agrees-order : Agrees (Unit {0}) n spec.order (grammar.any (lines.◌>>◌ (a_word (codes "order")) (lines.◌>>◌ (a_word (codes "by")) (list grammar.key)))) 0 (Head.word (codes "order") ∷ Head.others order_tail ∷ []) order_tail
   unfolding spec.order spec_lists.listed is_reserved
   agrees-order = agrees-any (codes "order") order_tail (agrees-bind (agrees-expect_word (codes "by")) (λ u. agrees-list order_tail agrees-key refl refl) refl) refl refl
 

@@ -8,9 +8,10 @@ use Rattle.sql_tree.specs.declared.catalog.SchemaCommand.TheVariants as schema
 use Rattle.sql_tree.specs.declared.command.Command.{Command}
 use Rattle.sql_tree.specs.declared.command.Command.TheVariants as command
 use Rattle.sql_expr.specs.Reading.{Tokens, ◌<$>◌, pure}
-use Rattle.sql_expr.specs.Lines.{Line, nowhere, gives, key, said}
+use Rattle.sql_expr.specs.Lines.{Line, nowhere, gives, word as a_word, said}
 use Rattle.sql_expr.specs.Lines as lines
-use Rattle.sql_expr.specs.Names.{is_reserved, sees_name}
+use Rattle.sql_expr.specs.Names.{sees_name}
+use Rattle.sql_expr.specs.Reserved.{is_reserved}
 use Rattle.sql_reader_query.specs.Names.{relation}
 use Rattle.sql_reader_catalog.specs.Removal as spec
 use Rattle.sql_reader.specs.CatalogGrammar as grammar
@@ -30,8 +31,8 @@ abbrev pub drop_tail : Barred
 drop_tail = record { words = codes "cascade" ∷ codes "restrict" ∷ []; signs = sign.Dot ∷ []; names = false; numbers = false; strings = false; params = false }
 
 abbrev kind_line : Line ObjectKind
-kind_line = lines.◌or◌ (lines.◌>>◌ (key (codes "table")) (gives object.Table)) (lines.◌or◌ (lines.◌>>◌ (key (codes "view")) (gives object.View))
-    (lines.◌or◌ (lines.◌>>◌ (key (codes "index")) (gives object.Index)) nowhere))
+kind_line = lines.◌or◌ (lines.◌>>◌ (a_word (codes "table")) (gives object.Table)) (lines.◌or◌ (lines.◌>>◌ (a_word (codes "view")) (gives object.View))
+    (lines.◌or◌ (lines.◌>>◌ (a_word (codes "index")) (gives object.Index)) nowhere))
 
 kind-there : (ts : Tokens) (k : ObjectKind) (us : Tokens) → kind_line ts k us → grammar.object_kind ts k us
 unfolding grammar.object_kind
@@ -47,7 +48,7 @@ kind-back ts k us (inr (inl view)) = inr (inl view)
 kind-back ts k us (inr (inr index)) = inr (inr (inl index))
 
 abbrev cascade_line : Line Bool
-cascade_line = lines.◌or◌ (lines.◌>>◌ (key (codes "cascade")) (gives true)) (lines.◌or◌ (lines.◌>>◌ (key (codes "restrict")) (gives false)) (gives false))
+cascade_line = lines.◌or◌ (lines.◌>>◌ (a_word (codes "cascade")) (gives true)) (lines.◌or◌ (lines.◌>>◌ (a_word (codes "restrict")) (gives false)) (gives false))
 
 cascade-there : (ts : Tokens) (b : Bool) (us : Tokens) → cascade_line ts b us → grammar.cascaded ts b us
 cascade-there ts b us (inl cascade) = inr (inl cascade)

@@ -12,9 +12,11 @@ use Rattle.sql_tokens.specs.declared.token.Sign.TheVariants as sign
 use Rattle.sql_tree.specs.declared.command.Command.{Command}
 use Rattle.sql_tree.specs.declared.command.Command.TheVariants as command
 use Rattle.sql_expr.specs.Reading.{Text, Tokens, Parser, ◌>>=◌, pure, sees_word}
-use Rattle.sql_expr.specs.Lines.{Line, gives, one, key, mark}
+use Rattle.sql_expr.specs.Lines.{Line, gives, word as a_word, mark}
+use Rattle.sql_expr.proofs.Agreement.{one}
 use Rattle.sql_expr.specs.Lines as lines
-use Rattle.sql_expr.specs.Names.{is_reserved, name_of, sees_name}
+use Rattle.sql_expr.specs.Names.{name_of, sees_name}
+use Rattle.sql_expr.specs.Reserved.{is_reserved}
 use Rattle.sql_expr.specs.Names as names
 use Rattle.sql_expr.specs.Grammar as expression
 use Rattle.sql_reader_session.specs.Keywords.{eat_before_name}
@@ -138,7 +140,7 @@ abbrev valued_read : Bool → Text → Parser Command
 valued_read local n = spec.expect_to >>= (λ u. spec.set_value >>= (λ v. pure (command.Set (record { name = n; local = local; value = v }))))
 
 abbrev valued : Bool → Text → Line Command
-valued local n = lines.◌>>◌ (lines.◌or◌ (key (codes "to")) (mark sign.Equal)) (lines.◌>>=◌ grammar.set_value (λ v. gives (command.Set (record { name = n; local = local; value = v }))))
+valued local n = lines.◌>>◌ (lines.◌or◌ (a_word (codes "to")) (mark sign.Equal)) (lines.◌>>=◌ grammar.set_value (λ v. gives (command.Set (record { name = n; local = local; value = v }))))
 
 abbrev scoped_read : Bool → Parser Command
 scoped_read local = names.name >>= valued_read local
@@ -166,15 +168,15 @@ module _ {n : ℕ} where
   unfolding spec.set_value spec.settings is_reserved
   agrees-set_value = agrees-word (codes "default") (agrees-pure value.Default (bar_sign sign.Comma)) (agrees-bind (agrees-list (bar_sign sign.Comma) agrees-setting refl refl) (λ found. agrees-pure (value.List found) (bar_sign sign.Comma)) refl) refl
 
-  agrees-expect_to : Agrees (Unit {0}) n spec.expect_to (lines.◌or◌ (key (codes "to")) (mark sign.Equal)) 1 value_heads nothing
+  agrees-expect_to : Agrees (Unit {0}) n spec.expect_to (lines.◌or◌ (a_word (codes "to")) (mark sign.Equal)) 1 value_heads nothing
   unfolding spec.expect_to
   agrees-expect_to = agrees-same there back (agrees-word (codes "to") (agrees-pure tt nothing) (agrees-expect_sign sign.Equal) refl)
     where
-      there : (ts : Tokens) (u : Unit {0}) (us : Tokens) → (lines.◌or◌ (lines.◌>>◌ (key (codes "to")) (gives tt)) (mark sign.Equal)) ts u us → (lines.◌or◌ (key (codes "to")) (mark sign.Equal)) ts u us
+      there : (ts : Tokens) (u : Unit {0}) (us : Tokens) → (lines.◌or◌ (lines.◌>>◌ (a_word (codes "to")) (gives tt)) (mark sign.Equal)) ts u us → (lines.◌or◌ (a_word (codes "to")) (mark sign.Equal)) ts u us
       there ts u us (inl (v, middle, front, same)) = inl (subst (λ vs. ts ≡ token.Word (codes "to") ∷ vs) (sym same.1) front)
       there ts u us (inr equal) = inr equal
 
-      back : (ts : Tokens) (u : Unit {0}) (us : Tokens) → (lines.◌or◌ (key (codes "to")) (mark sign.Equal)) ts u us → (lines.◌or◌ (lines.◌>>◌ (key (codes "to")) (gives tt)) (mark sign.Equal)) ts u us
+      back : (ts : Tokens) (u : Unit {0}) (us : Tokens) → (lines.◌or◌ (a_word (codes "to")) (mark sign.Equal)) ts u us → (lines.◌or◌ (lines.◌>>◌ (a_word (codes "to")) (gives tt)) (mark sign.Equal)) ts u us
       back ts u us (inl front) = inl (tt, us, front, (refl, refl))
       back ts u us (inr equal) = inr equal
 
@@ -196,11 +198,11 @@ module _ {n : ℕ} where
   agrees-set = agrees-same there back (agrees-keyword (codes "local") sees_name (λ found. cond found (pure true) (eat_before_name (codes "session") >>= (λ u. pure false)) >>= scoped_read) name-seen none (agrees-scoped true)
       (agrees-keyword (codes "session") sees_name (λ found. scoped_read false) name-seen (unscoped (codes "session") false) (agrees-scoped false) (agrees-scoped false)))
     where
-      none : (ts : Tokens) (c : Command) (us : Tokens) → (lines.◌or◌ (lines.◌>>◌ (key (codes "session")) (scoped false)) (scoped false)) ts c us → clear (bar_sign sign.Comma) us ≡ true → sees_before (codes "local") sees_name ts ≡ false
+      none : (ts : Tokens) (c : Command) (us : Tokens) → (lines.◌or◌ (lines.◌>>◌ (a_word (codes "session")) (scoped false)) (scoped false)) ts c us → clear (bar_sign sign.Comma) us ≡ true → sees_before (codes "local") sees_name ts ≡ false
       none ts c us (inl (u, middle, front, rest)) ends = ap (sees_before (codes "local") sees_name) front
       none ts c us (inr rest) ends = unscoped (codes "local") false ts c us rest ends
 
-      there : (ts : Tokens) (c : Command) (us : Tokens) → (lines.◌or◌ (lines.◌>>◌ (key (codes "local")) (scoped true)) (lines.◌or◌ (lines.◌>>◌ (key (codes "session")) (scoped false)) (scoped false))) ts c us → grammar.set ts c us
+      there : (ts : Tokens) (c : Command) (us : Tokens) → (lines.◌or◌ (lines.◌>>◌ (a_word (codes "local")) (scoped true)) (lines.◌or◌ (lines.◌>>◌ (a_word (codes "session")) (scoped false)) (scoped false))) ts c us → grammar.set ts c us
       there ts c us (inl (u, middle, front, rest)) = (true, middle, inr (inl (u, middle, front, (refl, refl))), rest)
       there ts c us (inr (inl (u, middle, front, rest))) = (false, middle, inl (u, middle, front, (refl, refl)), rest)
       there ts c us (inr (inr rest)) = (false, ts, inr (inr (refl, refl)), rest)
@@ -208,7 +210,7 @@ module _ {n : ℕ} where
       moved : (local wanted : Bool) (middle start : Tokens) (c : Command) (us : Tokens) → (local ≡ wanted) × (middle ≡ start) → scoped local middle c us → scoped wanted start c us
       moved local wanted middle start c us same rest = subst (λ l. scoped l start c us) same.0 (subst (λ vs. scoped local vs c us) same.1 rest)
 
-      back : (ts : Tokens) (c : Command) (us : Tokens) → grammar.set ts c us → (lines.◌or◌ (lines.◌>>◌ (key (codes "local")) (scoped true)) (lines.◌or◌ (lines.◌>>◌ (key (codes "session")) (scoped false)) (scoped false))) ts c us
+      back : (ts : Tokens) (c : Command) (us : Tokens) → grammar.set ts c us → (lines.◌or◌ (lines.◌>>◌ (a_word (codes "local")) (scoped true)) (lines.◌or◌ (lines.◌>>◌ (a_word (codes "session")) (scoped false)) (scoped false))) ts c us
       back ts c us (local, middle, inl (u, start, front, same), rest) = inr (inl (u, start, front, moved local false middle start c us same rest))
       back ts c us (local, middle, inr (inl (u, start, front, same)), rest) = inl (u, start, front, moved local true middle start c us same rest)
       back ts c us (local, middle, inr (inr same), rest) = inr (inr (moved local false middle ts c us same rest))

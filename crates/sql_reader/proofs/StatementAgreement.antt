@@ -9,8 +9,8 @@ use Rattle.sql_tree.specs.declared.statement.Statement.TheVariants.{Select, Inse
 use Rattle.sql_reader_query.specs.declared.changes.Change.{Change}
 use Rattle.sql_expr.specs.Reading.{Tokens, Outcome, Parser, and_then, ◌>>=◌, ◌<$>◌, pure, taken, eat_word, sees_word, sees_sign}
 use Rattle.sql_expr.specs.Expressions as spec_expression
-use Rattle.sql_expr.specs.Names.{is_reserved}
-use Rattle.sql_expr.specs.Lines.{Line, gives, key, maybe}
+use Rattle.sql_expr.specs.Reserved.{is_reserved}
+use Rattle.sql_expr.specs.Lines.{Line, gives, word as a_word, maybe}
 use Rattle.sql_expr.specs.Lines as lines
 use Rattle.sql_expr.specs.Grammar as expression
 use Rattle.sql_reader_query.specs.Changes as spec_changes
@@ -67,8 +67,8 @@ by_word f other = do
 
 abbrev by_word_line : {B : Type 0} → (Statement → B) → Line B → Line B
 by_word_line f other =
-    lines.◌or◌ (lines.◌>>◌ (key (codes "select")) (lines.◌<$>◌ (λ s. f (Select s)) query.selection))
-    (lines.◌or◌ (lines.◌>>◌ (key (codes "insert")) (lines.◌<$>◌ (λ i. f (Insert i)) grammar.insertion)) other)
+    lines.◌or◌ (lines.◌>>◌ (a_word (codes "select")) (lines.◌<$>◌ (λ s. f (Select s)) query.selection))
+    (lines.◌or◌ (lines.◌>>◌ (a_word (codes "insert")) (lines.◌<$>◌ (λ i. f (Insert i)) grammar.insertion)) other)
 
 -- a statement that was read, and what is made of it
 made : {A B : Type 0} (o : Outcome A) (of : A → Statement) (f : Statement → B) (further : Option Statement → Parser B) → ((s : Statement) → further (Some s) ≡ pure (f s))
@@ -158,7 +158,7 @@ searched-apart c ts b us (s, end, (filter, middle, conditioned, (given, last, re
     returns = let all : Agrees (Unit {0}) 0 spec_outputs.returning grammar.returning 0 (Head.word (codes "returning") ∷ Head.others returning_tail ∷ []) returning_tail = agrees-returning returning_tail refl refl in
         all.starts middle given last returned free
 
-    by : (found : Bool) → spec_changes.sees_position ts ≡ found → (maybe (lines.◌>>◌ (key (codes "where")) expression.expression)) ts filter middle → found ≡ false
+    by : (found : Bool) → spec_changes.sees_position ts ≡ found → (maybe (lines.◌>>◌ (a_word (codes "where")) expression.expression)) ts filter middle → found ≡ false
     by false e spelt = refl
     by true e (inr none) =
         let p = position-seen ts e in

@@ -7,9 +7,9 @@ use Rattle.sql_tree.specs.declared.catalog.OnCommit.{OnCommit}
 use Rattle.sql_tree.specs.declared.catalog.OnCommit.TheVariants.{Preserve, Delete, Drop}
 use Rattle.sql_tree.specs.declared.catalog.TableElement.TheVariants as element_of
 use Rattle.sql_expr.specs.Reading.{Tokens}
-use Rattle.sql_expr.specs.Lines.{Line, gives, key}
+use Rattle.sql_expr.specs.Lines.{Line, gives, word as a_word}
 use Rattle.sql_expr.specs.Lines as lines
-use Rattle.sql_expr.specs.Names.{is_reserved}
+use Rattle.sql_expr.specs.Reserved.{is_reserved}
 use Rattle.sql_reader_catalog.specs.Tables as spec
 use Rattle.sql_reader.specs.CatalogGrammar as grammar
 use Rattle.sql_expr.proofs.Heads.{Barred, Head}
@@ -48,8 +48,8 @@ module _ {n : ℕ} where
 
 -- in the order in which it is read
 abbrev commit_line : Line OnCommit
-commit_line = lines.◌or◌ (lines.◌>>◌ (key (codes "drop")) (gives Drop)) (lines.◌or◌ (lines.◌>>◌ (key (codes "delete")) (lines.◌>>◌ (key (codes "rows")) (gives Delete)))
-    (lines.◌>>◌ (key (codes "preserve")) (lines.◌>>◌ (key (codes "rows")) (gives Preserve))))
+commit_line = lines.◌or◌ (lines.◌>>◌ (a_word (codes "drop")) (gives Drop)) (lines.◌or◌ (lines.◌>>◌ (a_word (codes "delete")) (lines.◌>>◌ (a_word (codes "rows")) (gives Delete)))
+    (lines.◌>>◌ (a_word (codes "preserve")) (lines.◌>>◌ (a_word (codes "rows")) (gives Preserve))))
 
 there : (ts : Tokens) (ends : OnCommit) (us : Tokens) → commit_line ts ends us → grammar.commit_action ts ends us
 there ts ends us (inl drop) = inr (inr drop)

@@ -1,38 +1,24 @@
 -- The grammar of the catalog's commands, each behind its leading word.
-use Rattle.std.specs.Prelude.{◌≡◌, Bool, true, false, not, ◌&&◌, List, [], ◌∷◌, Option, Some, None, codes}
+use Rattle.std.specs.Prelude.{◌≡◌, Bool, true, false, not, ◌&&◌, List, [], ◌∷◌, Option, Some, None, if◌then◌else◌}
 use Rattle.std.specs.List.{list_any}
 use denote.Enum.Bare.{sameb}
 use Rattle.sql_tokens.specs.declared.token.Sign.TheVariants as sign
-use Rattle.sql_tree.specs.declared.catalog.AlterAction.{AlterAction}
-use Rattle.sql_tree.specs.declared.catalog.AlterAction.TheVariants as alteration
-use Rattle.sql_tree.specs.declared.catalog.ColumnDef.{ColumnDef}
-use Rattle.sql_tree.specs.declared.catalog.IndexTree.{IndexTree}
-use Rattle.sql_tree.specs.declared.catalog.KeyKind.{KeyKind}
-use Rattle.sql_tree.specs.declared.catalog.KeyKind.TheVariants as kind
 use Rattle.sql_tree.specs.contracts.catalog.KeyKind.{the_type}
-use Rattle.sql_tree.specs.declared.catalog.Nullability.{Nullability}
+use Rattle.sql_tree.specs.declared.{command.Command.Command, expr.Literal.Literal, expr.Numeral.Numeral}
+use Rattle.sql_tree.specs.declared.catalog.{AlterAction.AlterAction, ColumnDef.ColumnDef, IndexTree.IndexTree, KeyKind.KeyKind, Nullability.Nullability, ObjectKind.ObjectKind, OnCommit.OnCommit, SchemaCommand.SchemaCommand, TableElement.TableElement, TableTree.TableTree, TempTableTree.TempTableTree, ViewTree.ViewTree}
+use Rattle.sql_tree.specs.declared.catalog.AlterAction.TheVariants as alteration
+use Rattle.sql_tree.specs.declared.catalog.KeyKind.TheVariants as kind
 use Rattle.sql_tree.specs.declared.catalog.Nullability.TheVariants as nullability
-use Rattle.sql_tree.specs.declared.catalog.ObjectKind.{ObjectKind}
 use Rattle.sql_tree.specs.declared.catalog.ObjectKind.TheVariants as object
-use Rattle.sql_tree.specs.declared.catalog.OnCommit.{OnCommit}
 use Rattle.sql_tree.specs.declared.catalog.OnCommit.TheVariants.{Preserve, Delete, Drop}
-use Rattle.sql_tree.specs.declared.catalog.SchemaCommand.{SchemaCommand}
 use Rattle.sql_tree.specs.declared.catalog.SchemaCommand.TheVariants as schema
-use Rattle.sql_tree.specs.declared.catalog.TableElement.{TableElement}
 use Rattle.sql_tree.specs.declared.catalog.TableElement.TheVariants as element_of
-use Rattle.sql_tree.specs.declared.catalog.TableTree.{TableTree}
-use Rattle.sql_tree.specs.declared.catalog.TempTableTree.{TempTableTree}
-use Rattle.sql_tree.specs.declared.catalog.ViewTree.{ViewTree}
-use Rattle.sql_tree.specs.declared.command.Command.{Command}
 use Rattle.sql_tree.specs.declared.command.Command.TheVariants as command
-use Rattle.sql_tree.specs.declared.expr.Literal.{Literal}
-use Rattle.sql_tree.specs.declared.expr.Literal.TheVariants as literal
-use Rattle.sql_tree.specs.declared.expr.Numeral.{Numeral}
+use Rattle.sql_tree.specs.declared.expr.Literal.TheVariants as literal_of
 use Rattle.sql_tree.specs.declared.statement.Statement.TheVariants as statement
 use Rattle.sql_expr.specs.Texts.{Text}
-use Rattle.sql_expr.specs.Lines.{Line, ◌>>=◌, ◌>>◌, ◌<$>◌, ◌or◌, nowhere, gives, one, key, mark, maybe, said, many, list}
-use Rattle.sql_expr.specs.Grammar.{name}
-use Rattle.sql_expr.specs.Terminals.{literal_of, digits_of}
+use Rattle.sql_expr.specs.Lines.{Line, ◌>>=◌, ◌>>◌, ◌<$>◌, ◌or◌, nowhere, gives, name, number, key, mark, ahead, before, maybe, any, said, many, list}
+use Rattle.sql_expr.specs.Grammar.{literal}
 use Rattle.sql_reader.specs.NameGrammar.{relation, parenthesized_names}
 use Rattle.sql_reader.specs.QueryGrammar.{select}
 
@@ -40,14 +26,11 @@ use Rattle.sql_reader.specs.QueryGrammar.{select}
 
 -- "-" number
 abbrev pub negative : Line Numeral
-negative = do
-  mark sign.Minus
-  digits ← one digits_of
-  gives (record { negative = true; digits = digits })
+negative = do mark sign.Minus; digits ← number; gives (record { negative = true; digits = digits })
 
 -- ["-"] number | string | NULL | TRUE | FALSE
 unfoldable pub constant : Line Literal
-constant = one literal_of or literal.Number <$> negative
+constant = literal or literal_of.Number <$> negative
 
 -- what may stand behind the type: whether nulls are allowed, a default, a key
 pub data Part : Type 0 where
@@ -57,50 +40,39 @@ pub data Part : Type 0 where
 
 -- PRIMARY KEY | UNIQUE, in CREATE TABLE alone
 unfoldable pub key_part : Bool → Line Part
-key_part true = (key (codes "primary") >> (key (codes "key") >> gives (Part.keyed kind.Primary)))
-    or (key (codes "unique") >> gives (Part.keyed kind.Unique))
+key_part true = key "primary" >> (key "key" >> gives (Part.keyed kind.Primary)) or key "unique" >> gives (Part.keyed kind.Unique)
 key_part false = nowhere
 
 -- NOT NULL | NULL | DEFAULT constant | PRIMARY KEY | UNIQUE
 unfoldable pub part : Bool → Line Part
-part with_keys = (key (codes "not") >> (key (codes "null") >> gives (Part.nulls false)))
-    or (key (codes "null") >> gives (Part.nulls true))
-    or (key (codes "default") >> Part.default <$> constant)
-    or key_part with_keys
+part with_keys = key "not" >> (key "null" >> gives (Part.nulls false)) or key "null" >> gives (Part.nulls true)
+    or key "default" >> Part.default <$> constant or key_part with_keys
 
+-- no part comes twice, nor NULL and NOT NULL together
 abbrev pub same_kind : Part → Part → Bool
 same_kind (Part.nulls a) (Part.nulls b) = true
 same_kind (Part.default a) (Part.default b) = true
 same_kind (Part.keyed a) (Part.keyed b) = sameb the_type a b
 same_kind _ _ = false
 
--- no part comes twice, nor NULL and NOT NULL together
 abbrev pub none_twice : List Part → Bool
 none_twice [] = true
 none_twice (p ∷ parts) = not (list_any (same_kind p) parts) && none_twice parts
 
 abbrev pub nullability_of : List Part → Nullability
 nullability_of [] = nullability.Unsaid
-nullability_of (Part.nulls true ∷ parts) = nullability.Null
-nullability_of (Part.nulls false ∷ parts) = nullability.NotNull
-nullability_of (Part.default _ ∷ parts) = nullability_of parts
-nullability_of (Part.keyed _ ∷ parts) = nullability_of parts
+nullability_of (Part.nulls allowed ∷ parts) = if allowed then nullability.Null else nullability.NotNull
+nullability_of (_ ∷ parts) = nullability_of parts
 
 abbrev pub default_of : List Part → Option Literal
 default_of [] = None
-default_of (Part.nulls _ ∷ parts) = default_of parts
 default_of (Part.default value ∷ parts) = Some value
-default_of (Part.keyed _ ∷ parts) = default_of parts
+default_of (_ ∷ parts) = default_of parts
 
 abbrev pub keys_of : List Part → List KeyKind
 keys_of [] = []
-keys_of (Part.nulls _ ∷ parts) = keys_of parts
-keys_of (Part.default _ ∷ parts) = keys_of parts
 keys_of (Part.keyed key ∷ parts) = key ∷ keys_of parts
-
-abbrev pub defined : Text → Text → List Part → ColumnDef
-defined name type_name parts =
-    record { name = name; type_name = type_name; nullability = nullability_of parts; default = default_of parts; keys = keys_of parts }
+keys_of (_ ∷ parts) = keys_of parts
 
 -- no token, where the test holds
 abbrev pub provided : Bool → Line (Unit {0})
@@ -113,7 +85,7 @@ column_def with_keys = do
   type_name ← name
   parts ← many (part with_keys)
   provided (none_twice parts)
-  gives (defined column type_name parts)
+  gives (record { name = column; type_name = type_name; nullability = nullability_of parts; default = default_of parts; keys = keys_of parts })
 
 -- ---- CREATE
 
@@ -122,41 +94,32 @@ constraint kind = (λ columns. element_of.Key (record { kind = kind; columns = c
 
 -- PRIMARY KEY "(" names ")" | UNIQUE "(" names ")" | column_def
 unfoldable pub element : Line TableElement
-element = (key (codes "primary") >> (key (codes "key") >> constraint kind.Primary))
-    or (key (codes "unique") >> constraint kind.Unique)
+element = key "primary" >> (key "key" >> constraint kind.Primary) or key "unique" >> constraint kind.Unique
     or element_of.Column <$> column_def true
 
 -- relation "(" list(element) ")"
 unfoldable pub table : Line TableTree
 table = do
   name ← relation
-  mark sign.LeftParen
-  elements ← list element
-  mark sign.RightParen
+  mark sign.LeftParen; elements ← list element; mark sign.RightParen
   gives (record { name = name; elements = elements })
 
 -- PRESERVE ROWS | DELETE ROWS | DROP
 abbrev pub commit_action : Line OnCommit
-commit_action = (key (codes "preserve") >> (key (codes "rows") >> gives Preserve))
-    or (key (codes "delete") >> (key (codes "rows") >> gives Delete))
-    or (key (codes "drop") >> gives Drop)
+commit_action = key "preserve" >> (key "rows" >> gives Preserve) or key "delete" >> (key "rows" >> gives Delete) or key "drop" >> gives Drop
 
 -- [ON COMMIT (PRESERVE ROWS | DELETE ROWS | DROP)]
 unfoldable pub on_commit : Line OnCommit
-on_commit = (key (codes "on") >> (key (codes "commit") >> commit_action)) or gives Preserve
+on_commit = key "on" >> (key "commit" >> commit_action) or gives Preserve
 
--- table [ON COMMIT (PRESERVE ROWS | DELETE ROWS | DROP)]
 unfoldable pub temp_table : Line TempTableTree
-temp_table = do
-  made ← table
-  ends ← on_commit
-  gives (record { table = made; on_commit = ends })
+temp_table = do made ← table; ends ← on_commit; gives (record { table = made; on_commit = ends })
 
 -- name ON relation "(" names ")"
 unfoldable pub index : Bool → Line IndexTree
 index unique = do
   index_name ← name
-  key (codes "on")
+  key "on"
   indexed ← relation
   columns ← parenthesized_names
   gives (record { name = index_name; unique = unique; table = indexed; columns = columns })
@@ -164,52 +127,40 @@ index unique = do
 -- [OR REPLACE] VIEW relation ["(" names ")"] AS select
 unfoldable pub view : Line ViewTree
 view = do
-  replace ← (key (codes "or") >> (key (codes "replace") >> gives true)) or gives false
-  key (codes "view")
+  replace ← key "or" >> (key "replace" >> gives true) or gives false
+  key "view"
   view_name ← relation
-  columns ← parenthesized_names or gives []
-  key (codes "as")
+  columns ← any parenthesized_names
+  key "as"
   query ← select
   gives (record { name = view_name; replace = replace; columns = columns; query = statement.ViewSelect query })
 
 -- SCHEMA name | TABLE table | (TEMP | TEMPORARY) TABLE temp_table | [UNIQUE] INDEX index | view
 unfoldable pub create : Line Command
-create = (key (codes "schema") >> (λ made. command.Schema (schema.Create made)) <$> name)
-    or (key (codes "table") >> command.CreateTable <$> table)
-    or (do
-      key (codes "temp") or key (codes "temporary")
-      key (codes "table")
-      command.CreateTempTable <$> temp_table)
-    or (do
-      unique ← said (codes "unique")
-      key (codes "index")
-      command.CreateIndex <$> index unique)
+create = key "schema" >> (λ made. command.Schema (schema.Create made)) <$> name
+    or key "table" >> command.CreateTable <$> table
+    or (do key "temp" or key "temporary"; key "table"; command.CreateTempTable <$> temp_table)
+    or (do unique ← said "unique"; key "index"; command.CreateIndex <$> index unique)
     or command.CreateView <$> view
 
 -- ---- DROP, TRUNCATE and ANALYZE
 
 -- TABLE | VIEW | INDEX
 unfoldable pub object_kind : Line ObjectKind
-object_kind = (key (codes "table") >> gives object.Table)
-    or (key (codes "view") >> gives object.View)
-    or (key (codes "index") >> gives object.Index)
+object_kind = key "table" >> gives object.Table or key "view" >> gives object.View or key "index" >> gives object.Index
 
 -- [RESTRICT | CASCADE], and whether it is CASCADE
 abbrev pub cascaded : Line Bool
-cascaded = (key (codes "restrict") >> gives false) or (key (codes "cascade") >> gives true) or gives false
+cascaded = key "restrict" >> gives false or key "cascade" >> gives true or gives false
 
 -- SCHEMA name | (TABLE | VIEW | INDEX) relation [RESTRICT | CASCADE]
 unfoldable pub drop_object : Line Command
-drop_object = (key (codes "schema") >> (λ dropped. command.Schema (schema.Drop dropped)) <$> name)
-    or (do
-      kind ← object_kind
-      dropped ← relation
-      cascade ← cascaded
-      gives (command.Drop (record { kind = kind; name = dropped; cascade = cascade })))
+drop_object = key "schema" >> (λ dropped. command.Schema (schema.Drop dropped)) <$> name
+    or (do kind ← object_kind; dropped ← relation; cascade ← cascaded; gives (command.Drop (record { kind = kind; name = dropped; cascade = cascade })))
 
 -- [TABLE] relation
 unfoldable pub truncate : Line Command
-truncate = said (codes "table") >> command.Truncate <$> relation
+truncate = said "table" >> command.Truncate <$> relation
 
 -- [relation]
 unfoldable pub analyze : Line Command
@@ -217,65 +168,39 @@ analyze = (λ table. command.Analyze (Some table)) <$> relation or gives (comman
 
 -- ---- ALTER
 
--- TO name
 abbrev pub renamed : Line Text
-renamed = key (codes "to") >> name
+renamed = key "to" >> name
 
 abbrev pub not_null : Line (Unit {0})
-not_null = key (codes "not") >> key (codes "null")
+not_null = key "not" >> key "null"
 
 -- [SET DATA] TYPE type | SET DEFAULT constant | DROP DEFAULT | SET NOT NULL | DROP NOT NULL
 unfoldable pub change : Text → Line AlterAction
-change column =
-    (do
-      maybe (key (codes "set") >> key (codes "data"))
-      key (codes "type")
-      alteration.SetType column <$> name)
-    or (do
-      key (codes "set")
-      key (codes "default")
-      alteration.SetDefault column <$> constant)
-    or (key (codes "drop") >> (key (codes "default") >> gives (alteration.DropDefault column)))
-    or (key (codes "set") >> (not_null >> gives (alteration.SetNotNull column)))
-    or (key (codes "drop") >> (not_null >> gives (alteration.DropNotNull column)))
+change column = (do maybe (key "set" >> key "data"); key "type"; alteration.SetType column <$> name)
+    or (do key "set"; key "default"; alteration.SetDefault column <$> constant)
+    or key "drop" >> (key "default" >> gives (alteration.DropDefault column))
+    or key "set" >> (not_null >> gives (alteration.SetNotNull column))
+    or key "drop" >> (not_null >> gives (alteration.DropNotNull column))
+
+-- TYPE name | SET | DROP DEFAULT | DROP NOT: what shows that a change comes
+abbrev pub change_begun : Line (Unit {0})
+change_begun = key "type" >> ahead name or key "set" or key "drop" >> (key "default" or key "not")
 
 -- ADD [COLUMN] name type {NOT NULL | NULL | DEFAULT constant} | DROP [COLUMN] name | RENAME [COLUMN] name TO name
--- | RENAME TO name | SET SCHEMA name | ALTER [COLUMN] name change. What follows shows whether COLUMN is the keyword or a name.
+-- | RENAME TO name | SET SCHEMA name | ALTER [COLUMN] name change
 unfoldable pub action : Line AlterAction
-action =
-    (do
-      key (codes "add")
-      maybe (key (codes "column"))
-      alteration.AddColumn <$> column_def false)
-    or (do
-      key (codes "drop")
-      maybe (key (codes "column"))
-      alteration.DropColumn <$> name)
-    or (do
-      key (codes "rename")
-      maybe (key (codes "column"))
-      column ← name
-      alteration.RenameColumn column <$> renamed)
-    or (key (codes "rename") >> alteration.RenameTo <$> renamed)
-    or (key (codes "set") >> (key (codes "schema") >> alteration.SetSchema <$> name))
-    or (do
-      key (codes "alter")
-      maybe (key (codes "column"))
-      column ← name
-      change column)
+action = (do key "add"; before "column" (name >> name); alteration.AddColumn <$> column_def false)
+    or (do key "drop"; before "column" name; alteration.DropColumn <$> name)
+    or (do key "rename"; before "column" name; column ← name; alteration.RenameColumn column <$> renamed)
+    or key "rename" >> alteration.RenameTo <$> renamed
+    or key "set" >> (key "schema" >> alteration.SetSchema <$> name)
+    or (do key "alter"; before "column" (name >> change_begun); column ← name; change column)
 
 -- name RENAME TO name
 unfoldable pub renaming : Line SchemaCommand
-renaming = do
-  old ← name
-  key (codes "rename")
-  schema.Rename old <$> renamed
+renaming = do old ← name; key "rename"; schema.Rename old <$> renamed
 
 -- SCHEMA name RENAME TO name | TABLE relation action
 unfoldable pub alter : Line Command
-alter = (key (codes "schema") >> command.Schema <$> renaming)
-    or (do
-      key (codes "table")
-      altered ← relation
-      done ← action
-      gives (command.AlterTable (record { table = altered; action = done })))
+alter = key "schema" >> command.Schema <$> renaming
+    or (do key "table"; altered ← relation; done ← action; gives (command.AlterTable (record { table = altered; action = done })))

@@ -1,5 +1,5 @@
 -- The grammar of commands: which tokens spell one. A command of SQL begins with its leading word, a line with its backslash.
-use Rattle.std.specs.Prelude.{◌≡◌, ◌≤◌, ◌<◌, ◌⊎◌, List, [], codes, Result, Ok, Err}
+use Rattle.std.specs.Prelude.{◌≡◌, ◌≤◌, ◌<◌, ◌⊎◌, List, [], Result, Ok, Err}
 use Rattle.q_base.specs.declared.code.Code.TheVariants.{StackDepthExceeded, SyntaxError}
 use Rattle.q_base.specs.declared.errors.SqlError.{SqlError}
 use Rattle.sql_tokens.specs.declared.token.Token.{Token}
@@ -14,48 +14,25 @@ use Rattle.sql_reader.specs.LineGrammar.{backslash_line}
 use Rattle.sql_reader.specs.PreparedGrammar.{prepare, execute, explain, deallocate, discard}
 
 abbrev pub prepared_command : Line Command
-prepared_command = key (codes "prepare") >> prepare
-    or key (codes "execute") >> execute
-    or key (codes "explain") >> explain
-    or key (codes "deallocate") >> deallocate
-    or key (codes "discard") >> discard
+prepared_command = key "prepare" >> prepare or key "execute" >> execute or key "explain" >> explain
+    or key "deallocate" >> deallocate or key "discard" >> discard
 
 abbrev pub cursor_command : Line Command
-cursor_command = key (codes "declare") >> declare
-    or key (codes "fetch") >> fetch
-    or key (codes "move") >> move_cursor
-    or key (codes "close") >> close
+cursor_command = key "declare" >> declare or key "fetch" >> fetch or key "move" >> move_cursor or key "close" >> close
 
 abbrev pub block_command : Line Command
-block_command = key (codes "begin") >> begin
-    or key (codes "start") >> start
-    or key (codes "commit") >> commit
-    or key (codes "end") >> commit
-    or key (codes "rollback") >> rollback
-    or key (codes "abort") >> abort
-    or key (codes "savepoint") >> savepoint
-    or key (codes "release") >> release
+block_command = key "begin" >> begin or key "start" >> start or key "commit" >> commit or key "end" >> commit
+    or key "rollback" >> rollback or key "abort" >> abort or key "savepoint" >> savepoint or key "release" >> release
 
 abbrev pub setting_command : Line Command
-setting_command = key (codes "set") >> set
-    or key (codes "reset") >> reset
-    or key (codes "show") >> show
+setting_command = key "set" >> set or key "reset" >> reset or key "show" >> show
 
 abbrev pub catalog_command : Line Command
-catalog_command = key (codes "create") >> create
-    or key (codes "drop") >> drop_object
-    or key (codes "truncate") >> truncate
-    or key (codes "analyze") >> analyze
-    or key (codes "alter") >> alter
+catalog_command = key "create" >> create or key "drop" >> drop_object or key "truncate" >> truncate
+    or key "analyze" >> analyze or key "alter" >> alter
 
 unfoldable pub command : Line Command
-command = statement_command
-    or prepared_command
-    or cursor_command
-    or block_command
-    or setting_command
-    or catalog_command
-    or backslash_line
+command = statement_command or prepared_command or cursor_command or block_command or setting_command or catalog_command or backslash_line
 
 -- the tokens, all of them, spell the command
 abbrev pub Spells : List Token → Command → Type 0

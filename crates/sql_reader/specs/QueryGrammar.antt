@@ -1,105 +1,64 @@
 -- The grammar of queries.
-use Rattle.std.specs.Prelude.{Bool, true, false, List, [], Option, codes}
+use Rattle.std.specs.Prelude.{Bool, true, false, List, [], Option}
 use Rattle.sql_tokens.specs.declared.token.Sign.TheVariants as sign
 use Rattle.sql_tree.specs.declared.expr.Numeral.{Numeral}
-use Rattle.sql_tree.specs.declared.select.FromChain.{FromChain}
-use Rattle.sql_tree.specs.declared.select.FromItem.{FromItem}
-use Rattle.sql_tree.specs.declared.select.Grouping.{Grouping}
-use Rattle.sql_tree.specs.declared.select.Join.{Join}
+use Rattle.sql_tree.specs.declared.select.{FromChain.FromChain, FromItem.FromItem, Grouping.Grouping, Join.Join, Limits.Limits, OrderItem.OrderItem, OutputItem.OutputItem, RowCount.RowCount, Select.Select, SelectCore.SelectCore}
 use Rattle.sql_tree.specs.declared.select.Join.TheVariants.{Inner, Cross}
-use Rattle.sql_tree.specs.declared.select.Limits.{Limits}
-use Rattle.sql_tree.specs.declared.select.OrderItem.{OrderItem}
-use Rattle.sql_tree.specs.declared.select.OutputItem.{OutputItem}
 use Rattle.sql_tree.specs.declared.select.OutputItem.TheVariants as output_item
-use Rattle.sql_tree.specs.declared.select.RowCount.{RowCount}
 use Rattle.sql_tree.specs.declared.select.RowCount.TheVariants.{Number, Param, Null}
-use Rattle.sql_tree.specs.declared.select.Select.{Select}
-use Rattle.sql_tree.specs.declared.select.SelectCore.{SelectCore}
 use Rattle.sql_expr.specs.Texts.{Text}
-use Rattle.sql_expr.specs.Lines.{Line, ◌>>=◌, ◌>>◌, ◌<$>◌, ◌or◌, gives, one, key as keyword, mark, maybe, said, many, list}
-use Rattle.sql_expr.specs.Terminals.{digits_of, param_of}
-use Rattle.sql_expr.specs.Grammar.{name, expression}
+use Rattle.sql_expr.specs.Lines.{Line, ◌>>=◌, ◌>>◌, ◌<$>◌, ◌or◌, gives, key as keyword, mark, name, number, parameter, maybe, any, said, many, list}
+use Rattle.sql_expr.specs.Grammar.{expression}
 use Rattle.sql_reader.specs.NameGrammar.{relation, column}
-
--- `[P]` of a list: none where it is left out
-abbrev pub any : {A : Type 0} → Line (List A) → Line (List A)
-any P = P or gives []
 
 -- [[AS] name]
 unfoldable pub alias : Line (Option Text)
-alias = maybe (said (codes "as") >> name)
+alias = maybe (said "as" >> name)
 
 -- "*" | name "." "*" | expression alias
 unfoldable pub output : Line OutputItem
-output = (mark sign.Star >> gives output_item.All)
-    or (do
-      item ← name
-      mark sign.Dot
-      mark sign.Star
-      gives (output_item.AllOf item))
-    or (do
-      expr ← expression
-      named ← alias
-      gives (output_item.Expr expr named))
+output = mark sign.Star >> gives output_item.All
+    or (do item ← name; mark sign.Dot; mark sign.Star; gives (output_item.AllOf item))
+    or (do expr ← expression; named ← alias; gives (output_item.Expr expr named))
 
--- relation alias
 unfoldable pub item : Line FromItem
-item = do
-  table ← relation
-  named ← alias
-  gives (record { relation = table; alias = named })
+item = do table ← relation; named ← alias; gives (record { relation = table; alias = named })
 
 -- [INNER] JOIN item ON expression | CROSS JOIN item
 unfoldable pub join : Line Join
-join =
-    (do
-      said (codes "inner")
-      keyword (codes "join")
-      joined ← item
-      keyword (codes "on")
-      condition ← expression
-      gives (Inner joined condition))
-    or (do
-      keyword (codes "cross")
-      keyword (codes "join")
-      joined ← item
-      gives (Cross joined))
+join = (do said "inner"; keyword "join"; joined ← item; keyword "on"; condition ← expression; gives (Inner joined condition))
+    or (do keyword "cross"; keyword "join"; joined ← item; gives (Cross joined))
 
--- item {join}
 unfoldable pub chain : Line FromChain
-chain = do
-  first ← item
-  further ← many join
-  gives (record { first = first; joins = further })
+chain = do first ← item; further ← many join; gives (record { first = first; joins = further })
 
 -- [DISTINCT | ALL], and whether it is DISTINCT
 unfoldable pub distinct : Line Bool
-distinct = (keyword (codes "distinct") >> gives true) or (keyword (codes "all") >> gives false) or gives false
+distinct = keyword "distinct" >> gives true or keyword "all" >> gives false or gives false
 
 -- [DISTINCT | ALL] list(output) [FROM list(chain)] [WHERE expression]
 unfoldable pub core : Line SelectCore
 core = do
   unique ← distinct
   outputs ← list output
-  chains ← any (keyword (codes "from") >> list chain)
-  filter ← maybe (keyword (codes "where") >> expression)
+  chains ← any (keyword "from" >> list chain)
+  filter ← maybe (keyword "where" >> expression)
   gives (record { distinct = unique; outputs = outputs; from = chains; condition = filter })
 
 -- [GROUP BY list(column)] [HAVING expression]
 unfoldable pub grouping : Line Grouping
 grouping = do
-  keys ← any (keyword (codes "group") >> (keyword (codes "by") >> list column))
-  having ← maybe (keyword (codes "having") >> expression)
+  keys ← any (keyword "group" >> (keyword "by" >> list column))
+  having ← maybe (keyword "having" >> expression)
   gives (record { keys = keys; having = having })
 
 -- [ASC | DESC], and whether it is DESC
 unfoldable pub descending : Line Bool
-descending = (keyword (codes "asc") >> gives false) or (keyword (codes "desc") >> gives true) or gives false
+descending = keyword "asc" >> gives false or keyword "desc" >> gives true or gives false
 
 -- [NULLS (FIRST | LAST)]: without it, nulls come first where the key descends
 unfoldable pub nulls_first : Bool → Line Bool
-nulls_first falls =
-    (keyword (codes "nulls") >> (keyword (codes "first") >> gives true or keyword (codes "last") >> gives false)) or gives falls
+nulls_first falls = keyword "nulls" >> (keyword "first" >> gives true or keyword "last" >> gives false) or gives falls
 
 -- expression [ASC | DESC] [NULLS (FIRST | LAST)]
 unfoldable pub key : Line OrderItem
@@ -112,43 +71,34 @@ key = do
 -- ["-"] number
 unfoldable pub numeral : Line Numeral
 numeral = do
-  negative ← (mark sign.Minus >> gives true) or gives false
-  digits ← one digits_of
+  negative ← mark sign.Minus >> gives true or gives false
+  digits ← number
   gives (record { negative = negative; digits = digits })
 
 -- NULL | parameter | ["-"] number
 unfoldable pub count : Line RowCount
-count = (keyword (codes "null") >> gives Null) or Param <$> one param_of or Number <$> numeral
+count = keyword "null" >> gives Null or Param <$> parameter or Number <$> numeral
 
 -- [LIMIT (ALL | count)]
 unfoldable pub limit : Line (Option RowCount)
-limit = maybe (keyword (codes "limit") >> ((keyword (codes "all") >> gives Null) or count))
+limit = maybe (keyword "limit" >> (keyword "all" >> gives Null or count))
 
--- [OFFSET count]
 unfoldable pub offset : Line (Option RowCount)
-offset = maybe (keyword (codes "offset") >> count)
+offset = maybe (keyword "offset" >> count)
 
 -- limit and offset in either order
 unfoldable pub limits : Line Limits
-limits =
-    (do
-      most ← limit
-      skipped ← offset
-      gives (record { limit = most; offset = skipped }))
-    or (do
-      skipped ← offset
-      most ← limit
-      gives (record { limit = most; offset = skipped }))
+limits = (do most ← limit; skipped ← offset; gives (record { limit = most; offset = skipped }))
+    or (do skipped ← offset; most ← limit; gives (record { limit = most; offset = skipped }))
 
 -- core grouping [ORDER BY list(key)] limits
 unfoldable pub selection : Line Select
 selection = do
   c ← core
   g ← grouping
-  keys ← any (keyword (codes "order") >> (keyword (codes "by") >> list key))
+  keys ← any (keyword "order" >> (keyword "by" >> list key))
   cut ← limits
   gives (record { core = c; grouping = g; order = keys; limits = cut })
 
--- SELECT selection
 unfoldable pub select : Line Select
-select = keyword (codes "select") >> selection
+select = keyword "select" >> selection

@@ -1,14 +1,17 @@
 -- Row changes.
-use Rattle.std.specs.Prelude.{Bool, List, drop, None, codes, ◌&&◌, if◌then◌else◌}
+use Rattle.std.specs.Prelude.{Bool, List, drop, Option, None, codes, ◌&&◌, if◌then◌else◌}
 use Rattle.sql_tokens.specs.declared.token.Sign.TheVariants as sign
 use Rattle.sql_tree.specs.declared.command.Command.{Command}
 use Rattle.sql_tree.specs.declared.command.Command.TheVariants as command
+use Rattle.sql_tree.specs.declared.expr.Expr.{Expr}
 use Rattle.sql_tree.specs.declared.rows.Assignment.{Assignment}
 use Rattle.sql_tree.specs.declared.rows.InsertTree.{InsertTree}
 use Rattle.sql_tree.specs.declared.rows.NewValue.{NewValue}
 use Rattle.sql_tree.specs.declared.rows.NewValue.TheVariants as value_of
+use Rattle.sql_tree.specs.declared.select.OutputItem.{OutputItem}
 use Rattle.sql_tree.specs.declared.statement.PositionedTree.{PositionedTree}
 use Rattle.sql_tree.specs.declared.statement.Statement.{Statement}
+use Rattle.sql_tree.specs.declared.statement.Statement.TheVariants as statement
 use Rattle.sql_reader_query.specs.declared.changes.Change.{Change}
 use Rattle.sql_reader_query.specs.declared.changes.Change.TheVariants.{Update, Delete}
 use Rattle.sql_reader_query.specs.declared.changes.InsertTarget.{InsertTarget}
@@ -19,7 +22,6 @@ use Rattle.sql_reader_query.specs.Lists.{listed, looking}
 use Rattle.sql_reader_query.specs.Names.{relation, optional_names}
 use Rattle.sql_reader_query.specs.Outputs.{returning}
 use Rattle.sql_reader_query.specs.Query.{condition}
-unfoldable pub use Rattle.sql_reader_query.specs.Values.{statement_of}
 
 unfoldable pub target : Parser InsertTarget
 target = do
@@ -74,6 +76,12 @@ change = do
   if update then updated else (do
     delete ← eat_word (codes "delete")
     if delete then deleted else refuse)
+
+abbrev pub statement_of : Change → Option Expr → List OutputItem → Statement
+statement_of (Update table assignments) filter given =
+    statement.Update (record { table = table; assignments = assignments; condition = filter; returning = given })
+statement_of (Delete table) filter given =
+    statement.Delete (record { table = table; condition = filter; returning = given })
 
 -- `[WHERE expression] returning`, behind a change
 unfoldable pub searched : Change → Parser Statement

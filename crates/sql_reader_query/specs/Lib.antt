@@ -6,4 +6,3 @@ pub mod Names
 pub mod Outputs
 pub mod Query
 pub mod Statements
-pub mod Values

@@ -15,7 +15,6 @@ use Rattle.sql_reader_session.specs.declared.cursors.CursorOption.{CursorOption}
 use Rattle.sql_reader_session.specs.declared.cursors.CursorOption.TheVariants.{Scroll, NoScroll, Insensitive, Asensitive}
 use Rattle.sql_reader_session.specs.Keywords.{eat_either}
 use Rattle.sql_reader_session.specs.Motions.{optional_motion}
-unfoldable pub use Rattle.sql_reader_session.specs.Values.{no_options, with_option}
 
 -- the option that one word is
 abbrev pub option_of_word : Text → Option CursorOption
@@ -33,6 +32,16 @@ unfoldable pub cursor_option : Parser (Option CursorOption)
 cursor_option = do
   negated ← eat_word (codes "no")
   if negated then expect_word (codes "scroll") >> pure (Some NoScroll) else taken option_of
+
+abbrev pub no_options : CursorOptions
+no_options = record { scroll = false; no_scroll = false; insensitive = false; asensitive = false }
+
+-- an option more, which may be among them already
+abbrev pub with_option : CursorOptions → CursorOption → CursorOptions
+with_option options Scroll = record options { scroll = true }
+with_option options NoScroll = record options { no_scroll = true }
+with_option options Insensitive = record options { insensitive = true }
+with_option options Asensitive = record options { asensitive = true }
 
 -- The number bounds the turns; each turn reads a token, so the count of tokens is enough.
 unfoldable pub options_from : ℕ → CursorOptions → Parser CursorOptions

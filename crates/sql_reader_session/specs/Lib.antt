@@ -6,4 +6,3 @@ pub mod Motions
 pub mod Numbers
 pub mod Prepared
 pub mod Settings
-pub mod Values

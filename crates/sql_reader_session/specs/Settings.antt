@@ -1,5 +1,5 @@
 -- SET, RESET and SHOW, each behind its leading word.
-use Rattle.std.specs.Prelude.{Bool, true, false, ◌||◌, not, List, Option, None, Some, codes, if◌then◌else◌}
+use Rattle.std.specs.Prelude.{Bool, true, false, ◌||◌, not, List, ◌++◌, Option, None, Some, codes, if◌then◌else◌}
 use Rattle.std.specs.Str.{bytes_eq}
 use Rattle.q_base.specs.declared.settings.Setting.{Setting}
 use Rattle.q_base.specs.declared.settings.SetValue.{SetValue}
@@ -9,11 +9,12 @@ use Rattle.sql_tokens.specs.declared.token.Token.TheVariants as token
 use Rattle.sql_tokens.specs.declared.token.Sign.TheVariants as sign
 use Rattle.sql_tree.specs.declared.command.Command.{Command}
 use Rattle.sql_tree.specs.declared.command.Command.TheVariants as command
+use Rattle.sql_tree.specs.declared.expr.Numeral.{Numeral}
 use Rattle.sql_expr.specs.Reading.{Text, Parser, ◌>>=◌, ◌>>◌, ◌<$>◌, pure, taken, eat_word, eat_sign, expect_sign, separated}
-use Rattle.sql_expr.specs.Names.{is_reserved, name}
+use Rattle.sql_expr.specs.Names.{name}
+use Rattle.sql_expr.specs.Reserved.{is_reserved}
 use Rattle.sql_expr.specs.Literals.{numeral}
 use Rattle.sql_reader_session.specs.Keywords.{eat_before_name}
-unfoldable pub use Rattle.sql_reader_session.specs.Values.{numeral_text, number_setting}
 
 -- ON, TRUE and FALSE stand for themselves here, though they are no names
 abbrev pub is_setting_word : Text → Bool
@@ -25,6 +26,13 @@ text_of (token.Word word) = if is_setting_word word then Some word else None
 text_of (token.Quoted name) = Some name
 text_of (token.Text text) = Some text
 text_of _ = None
+
+-- the digits as written, with the minus directly before them
+abbrev pub numeral_text : Numeral → Text
+numeral_text n = if n.negative then codes "-" ++ n.digits else n.digits
+
+abbrev pub number_setting : Numeral → Setting
+number_setting n = record { text = numeral_text n; number = true }
 
 abbrev pub text_or_number : Option Text → Parser Setting
 text_or_number (Some text) = pure (record { text = text; number = false })
