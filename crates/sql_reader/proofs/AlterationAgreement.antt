@@ -5,9 +5,8 @@ use Rattle.sql_tree.specs.declared.catalog.AlterAction.TheVariants as alteration
 use Rattle.sql_tree.specs.declared.catalog.SchemaCommand.TheVariants as schema
 use Rattle.sql_tree.specs.declared.command.Command.TheVariants as command
 use Rattle.sql_expr.specs.Reading.{Text, Tokens}
-use Rattle.sql_expr.specs.Lines.{Line, gives, word as a_word}
+use Rattle.sql_expr.specs.Lines.{Line, gives, name, word as a_word}
 use Rattle.sql_expr.specs.Lines as lines
-use Rattle.sql_expr.specs.Grammar.{name}
 use Rattle.sql_expr.specs.Reserved.{is_reserved}
 use Rattle.sql_reader_catalog.specs.Alteration as spec
 use Rattle.sql_reader.specs.CatalogGrammar as grammar
@@ -15,7 +14,8 @@ use Rattle.sql_expr.proofs.Heads.{Head}
 use Rattle.sql_expr.proofs.Agreement.{Agrees, nothing, agrees-pure, agrees-bind, agrees-same, agrees-fewer, agrees-word, agrees-expect_word}
 use Rattle.sql_expr.proofs.ExpressionAgreement.{agrees-name}
 use Rattle.sql_reader.proofs.ColumnAgreement.{agrees-column_def}
-use Rattle.sql_reader.proofs.ColumnWordAgreement.{alter_tail, added, dropped, renamed_column, altered, settles-added, settles-dropped, settles-renamed, settles-altered, agrees-column_word}
+use Rattle.sql_reader.proofs.ColumnWordAgreement.{alter_tail, added, dropped, renamed_column, altered, looks-definition, looks-column, looks-change}
+use Rattle.sql_reader.proofs.KeywordAgreement.{agrees-before}
 use Rattle.sql_reader.proofs.ConstantAgreement.{agrees-constant}
 use Rattle.sql_reader.proofs.NameAgreement.{agrees-relation}
 
@@ -58,15 +58,15 @@ change-back column ts a us (inr (inr (inr (inr (u, middle, drop, rest))))) = inr
 
 -- ---- actions, in the order in which they are read
 
-abbrev behind_column : Line AlterAction → Line AlterAction
-behind_column P = lines.◌>>◌ (lines.maybe (a_word (codes "column"))) P
+abbrev before_column : {A : Type 0} → Line A → Line AlterAction → Line AlterAction
+before_column F P = lines.◌>>◌ (lines.before "column" F) P
 
 abbrev rename_line : Line AlterAction
-rename_line = lines.◌or◌ (lines.◌>>◌ (a_word (codes "to")) (lines.◌<$>◌ alteration.RenameTo name)) (behind_column renamed_column)
+rename_line = lines.◌or◌ (lines.◌>>◌ (a_word (codes "to")) (lines.◌<$>◌ alteration.RenameTo name)) (before_column name renamed_column)
 
 abbrev action_line : Line AlterAction
-action_line = lines.◌or◌ (lines.◌>>◌ (a_word (codes "add")) (behind_column added)) (lines.◌or◌ (lines.◌>>◌ (a_word (codes "drop")) (behind_column dropped)) (lines.◌or◌ (lines.◌>>◌ (a_word (codes "rename")) rename_line)
-    (lines.◌or◌ (lines.◌>>◌ (a_word (codes "set")) (lines.◌>>◌ (a_word (codes "schema")) (lines.◌<$>◌ alteration.SetSchema name))) (lines.◌>>◌ (a_word (codes "alter")) (behind_column altered)))))
+action_line = lines.◌or◌ (lines.◌>>◌ (a_word (codes "add")) (before_column (lines.◌>>◌ name name) added)) (lines.◌or◌ (lines.◌>>◌ (a_word (codes "drop")) (before_column name dropped)) (lines.◌or◌ (lines.◌>>◌ (a_word (codes "rename")) rename_line)
+    (lines.◌or◌ (lines.◌>>◌ (a_word (codes "set")) (lines.◌>>◌ (a_word (codes "schema")) (lines.◌<$>◌ alteration.SetSchema name))) (lines.◌>>◌ (a_word (codes "alter")) (before_column (lines.◌>>◌ name grammar.change_begun) altered)))))
 
 action-there : (ts : Tokens) (a : AlterAction) (us : Tokens) → action_line ts a us → grammar.action ts a us
 unfolding grammar.action
@@ -118,9 +118,9 @@ module _ {n : ℕ} where
       (agrees-word (codes "default") (agrees-pure (alteration.DropDefault column) alter_tail)
       (agrees-bind agrees-not_null (λ u. agrees-pure (alteration.DropNotNull column) alter_tail) refl) refl)
 
-  agrees-alter_column : Agrees (Unit {0}) n spec.alter_column (behind_column altered) 1 column_heads alter_tail
+  agrees-alter_column : Agrees (Unit {0}) n spec.alter_column (before_column (lines.◌>>◌ name grammar.change_begun) altered) 1 column_heads alter_tail
   unfolding spec.alter_column
-  agrees-alter_column = agrees-fewer 1 (omega arith) (agrees-column_word settles-altered (agrees-bind agrees-name (λ column. agrees-same (change-there column) (change-back column)
+  agrees-alter_column = agrees-fewer 1 (omega arith) (agrees-before "column" looks-change (agrees-bind agrees-name (λ column. agrees-same (change-there column) (change-back column)
       (agrees-word (codes "type") (agrees-set_type column)
       (agrees-word (codes "set") (agrees-set_part column)
       (agrees-bind (agrees-expect_word (codes "drop")) (λ u. agrees-drop_part column) refl) refl) refl)) refl))
@@ -129,13 +129,13 @@ module _ {n : ℕ} where
   unfolding spec.rename is_reserved
   agrees-rename = agrees-fewer 1 (omega arith)
       (agrees-word (codes "to") (agrees-bind agrees-name (λ new. agrees-pure (alteration.RenameTo new) alter_tail) refl)
-      (agrees-column_word settles-renamed (agrees-bind agrees-name (λ column. agrees-bind agrees-renamed (λ new. agrees-pure (alteration.RenameColumn column new) alter_tail) refl) refl)) refl)
+      (agrees-before "column" looks-column (agrees-bind agrees-name (λ column. agrees-bind agrees-renamed (λ new. agrees-pure (alteration.RenameColumn column new) alter_tail) refl) refl)) refl)
 
   pub agrees-action : Agrees (Unit {0}) n spec.table_action grammar.action 1 action_heads alter_tail
   unfolding spec.table_action
   agrees-action = agrees-same action-there action-back (agrees-fewer 1 (omega arith)
-      (agrees-word (codes "add") (agrees-column_word settles-added (agrees-bind (agrees-column_def false) (λ def. agrees-pure (alteration.AddColumn def) alter_tail) refl))
-      (agrees-word (codes "drop") (agrees-column_word settles-dropped (agrees-bind agrees-name (λ column. agrees-pure (alteration.DropColumn column) alter_tail) refl))
+      (agrees-word (codes "add") (agrees-before "column" looks-definition (agrees-bind (agrees-column_def false) (λ def. agrees-pure (alteration.AddColumn def) alter_tail) refl))
+      (agrees-word (codes "drop") (agrees-before "column" looks-column (agrees-bind agrees-name (λ column. agrees-pure (alteration.DropColumn column) alter_tail) refl))
       (agrees-word (codes "rename") agrees-rename
       (agrees-word (codes "set") (agrees-bind (agrees-expect_word (codes "schema")) (λ u. agrees-bind agrees-name (λ schema. agrees-pure (alteration.SetSchema schema) alter_tail) refl) refl)
       (agrees-bind (agrees-expect_word (codes "alter")) (λ u. agrees-alter_column) refl) refl) refl) refl) refl))

@@ -3,9 +3,6 @@ use Rattle.std.proofs.Common.{inl, inr, ℕ, true, false, cond, List, [], ◌∷
 use Rattle.sql_tree.specs.declared.command.Command.{Command}
 use Rattle.sql_tree.specs.declared.command.Command.TheVariants as command
 use Rattle.sql_expr.specs.Reading.{Tokens, Parser, ◌>>=◌, pure, eat_word}
-use Rattle.sql_expr.specs.Names.{sees_name}
-use Rattle.sql_expr.specs.Names as names
-use Rattle.sql_expr.specs.Grammar as expression
 use Rattle.sql_expr.specs.Lines.{Line, gives, word as a_word}
 use Rattle.sql_expr.specs.Lines as lines
 use Rattle.sql_reader_session.specs.Blocks as spec
@@ -14,7 +11,7 @@ use Rattle.sql_expr.proofs.Heads.{Barred, Head}
 use Rattle.sql_expr.proofs.Agreement.{Agrees, nothing, agrees-pure, agrees-bind, agrees-same, agrees-wider, agrees-word, agrees-expect_word}
 use Rattle.sql_expr.proofs.ExpressionAgreement.{agrees-name}
 use Rattle.sql_expr.proofs.TokenKinds.{bar_names}
-use Rattle.sql_reader.proofs.KeywordAgreement.{agrees-bracket, agrees-either, agrees-keyword, name-seen, no-keyword}
+use Rattle.sql_reader.proofs.KeywordAgreement.{agrees-either, agrees-before, looks-name}
 
 -- what could go on with a command that ends a block or begins one
 abbrev pub work_words : Barred
@@ -53,10 +50,7 @@ module _ {n : ℕ} where
 
   pub agrees-savepoint_name : Agrees (Unit {0}) n spec.savepoint_name grammar.savepoint_name 1 (Head.word (codes "savepoint") ∷ Head.name ∷ []) bar_names
   unfolding spec.savepoint_name
-  agrees-savepoint_name = agrees-bracket (agrees-keyword (codes "savepoint") sees_name (λ found. names.name) name-seen (no-keyword (codes "savepoint")) name_alone name_alone)
-    where
-      name_alone : Agrees (Unit {0}) n names.name expression.name 1 (Head.name ∷ []) bar_names
-      name_alone = agrees-wider bar_names refl agrees-name
+  agrees-savepoint_name = agrees-before "savepoint" (looks-name (codes "savepoint")) (agrees-wider bar_names refl agrees-name)
 
   pub agrees-release : Agrees (Unit {0}) n spec.release grammar.release 1 (Head.word (codes "savepoint") ∷ Head.name ∷ []) bar_names
   unfolding spec.release grammar.release

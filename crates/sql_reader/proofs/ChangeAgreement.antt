@@ -1,5 +1,5 @@
 -- Row changes are read exactly where they are spelt.
-use Rattle.std.proofs.Common.{◌≡◌, inl, inr, ℕ, true, List, [], ◌∷◌, None, codes, refl, subst, arith}
+use Rattle.std.proofs.Common.{◌≡◌, inl, inr, ℕ, true, List, [], ◌∷◌, None, codes, refl, ap, subst, arith}
 use Rattle.sql_tokens.specs.declared.token.Sign.TheVariants as sign
 use Rattle.sql_tree.specs.declared.names.QName.{QName}
 use Rattle.sql_tree.specs.declared.rows.InsertTree.{InsertTree}
@@ -10,9 +10,8 @@ use Rattle.sql_reader_query.specs.declared.changes.Change.TheVariants.{Update, D
 use Rattle.sql_reader_query.specs.declared.changes.InsertTarget.{InsertTarget}
 use Rattle.sql_expr.specs.Reading.{Text, Tokens, ◌>>=◌, ◌>>◌, pure, expect_word}
 use Rattle.sql_expr.specs.Reserved.{is_reserved}
-use Rattle.sql_expr.specs.Lines.{Line, gives, nowhere, word as a_word, mark, maybe, list}
+use Rattle.sql_expr.specs.Lines.{Line, gives, nowhere, word as a_word, mark, maybe, any, list}
 use Rattle.sql_expr.specs.Lines as lines
-use Rattle.sql_expr.specs.Grammar as expression
 use Rattle.sql_reader_query.specs.Changes as spec
 use Rattle.sql_reader_query.specs.Lists as spec_lists
 use Rattle.sql_reader_query.specs.Names as spec_names
@@ -20,7 +19,6 @@ use Rattle.sql_reader_query.specs.Outputs as spec_outputs
 use Rattle.sql_reader_query.specs.Query as spec_query
 use Rattle.sql_reader.specs.ChangeGrammar as grammar
 use Rattle.sql_reader.specs.NameGrammar as names
-use Rattle.sql_reader.specs.QueryGrammar.{any}
 use Rattle.sql_expr.proofs.Heads.{Barred, Head, all_avoid}
 use Rattle.sql_expr.proofs.Agreement.{Agrees, nothing, bar_word, bar_sign, agrees-pure, agrees-refuse, agrees-bind, agrees-same, agrees-wider, agrees-fewer, agrees-word, agrees-sign, agrees-expect_word, agrees-expect_sign}
 use Rattle.sql_expr.proofs.ListAgreement.{agrees-list}
@@ -82,33 +80,45 @@ agrees-target = agrees-bind (agrees-expect_word (codes "into")) (λ u. agrees-bi
 
 -- ---- UPDATE and DELETE
 
-change-there : (ts : Tokens) (c : Change) (us : Tokens)
-    → (lines.◌or◌ (lines.◌>>◌ (a_word (codes "update")) grammar.updated) (lines.◌or◌ (lines.◌>>◌ (a_word (codes "delete")) grammar.deleted) nowhere)) ts c us → grammar.changed ts c us
-unfolding grammar.changed
-change-there ts c us (inl update) = inl update
-change-there ts c us (inr (inl delete)) = inr delete
-change-there ts c us (inr (inr none)) = absurd none
+-- a change as it is read
+abbrev updated_line : Line Change
+updated_line = lines.◌>>=◌ names.relation (λ table. lines.◌>>◌ (a_word (codes "set")) (lines.◌>>=◌ (list grammar.assignment) (λ assignments. gives (Update table assignments))))
 
-change-back : (ts : Tokens) (c : Change) (us : Tokens) → grammar.changed ts c us
-    → (lines.◌or◌ (lines.◌>>◌ (a_word (codes "update")) grammar.updated) (lines.◌or◌ (lines.◌>>◌ (a_word (codes "delete")) grammar.deleted) nowhere)) ts c us
-unfolding grammar.changed
-change-back ts c us (inl update) = inl update
-change-back ts c us (inr delete) = inr (inl delete)
+abbrev deleted_line : Line Change
+deleted_line = lines.◌>>◌ (a_word (codes "from")) (lines.◌>>=◌ names.relation (λ table. gives (Delete table)))
+
+abbrev pub changed_line : Line Change
+changed_line = lines.◌or◌ (lines.◌>>◌ (a_word (codes "update")) updated_line) (lines.◌or◌ (lines.◌>>◌ (a_word (codes "delete")) deleted_line) nowhere)
+
+pub changed-there : (ts : Tokens) (c : Change) (us : Tokens) → changed_line ts c us → grammar.changed ts (spec.statement_of c) us
+unfolding grammar.changed grammar.updated grammar.deleted
+changed-there ts c us (inl (u, behind_update, update, (table, behind_table, named, (v, behind_set, set, (assignments, last, listed, (value, end)))))) =
+    inl (u, behind_update, update, (table, behind_table, named, (v, behind_set, set, (assignments, last, listed, (ap spec.statement_of value, end)))))
+changed-there ts c us (inr (inl (u, behind_delete, delete, (v, behind_from, from, (table, last, named, (value, end)))))) =
+    inr (u, behind_delete, delete, (v, behind_from, from, (table, last, named, (ap spec.statement_of value, end))))
+changed-there ts c us (inr (inr none)) = absurd none
+
+pub changed-back : (ts : Tokens) (f : grammar.Change) (us : Tokens) → grammar.changed ts f us → (c : Change) × (f ≡ spec.statement_of c) × changed_line ts c us
+unfolding grammar.changed grammar.updated grammar.deleted
+changed-back ts f us (inl (u, behind_update, update, (table, behind_table, named, (v, behind_set, set, (assignments, last, listed, (value, end)))))) =
+    (Update table assignments, value, inl (u, behind_update, update, (table, behind_table, named, (v, behind_set, set, (assignments, last, listed, (refl, end))))))
+changed-back ts f us (inr (u, behind_delete, delete, (v, behind_from, from, (table, last, named, (value, end))))) =
+    (Delete table, value, inr (inl (u, behind_delete, delete, (v, behind_from, from, (table, last, named, (refl, end))))))
 
 -- ---- WHERE CURRENT OF name
 
 abbrev position_line : Line Text
-position_line = lines.◌>>◌ (a_word (codes "where")) (lines.◌>>◌ (a_word (codes "current")) (lines.◌>>◌ (a_word (codes "of")) expression.name))
+position_line = lines.◌>>◌ (a_word (codes "where")) (lines.◌>>◌ (a_word (codes "current")) (lines.◌>>◌ (a_word (codes "of")) lines.name))
 
 abbrev positioned_line : Change → Line PositionedTree
 positioned_line c = lines.◌>>=◌ position_line (λ cursor. lines.◌>>=◌ grammar.returning (λ given. gives (record { statement = spec.statement_of c None given; cursor = cursor })))
 
-positioned-there : (c : Change) (ts : Tokens) (p : PositionedTree) (us : Tokens) → positioned_line c ts p us → grammar.positioned c ts p us
+positioned-there : (c : Change) (ts : Tokens) (p : PositionedTree) (us : Tokens) → positioned_line c ts p us → grammar.positioned (spec.statement_of c) ts p us
 unfolding grammar.positioned
 positioned-there c ts p us (cursor, middle, (u, behind_where, where_word, (v, behind_current, current, (x, behind_of, of, named))), rest) =
     (u, behind_where, where_word, (v, behind_current, current, (x, behind_of, of, (cursor, middle, named, rest))))
 
-positioned-back : (c : Change) (ts : Tokens) (p : PositionedTree) (us : Tokens) → grammar.positioned c ts p us → positioned_line c ts p us
+positioned-back : (c : Change) (ts : Tokens) (p : PositionedTree) (us : Tokens) → grammar.positioned (spec.statement_of c) ts p us → positioned_line c ts p us
 unfolding grammar.positioned
 positioned-back c ts p us (u, behind_where, where_word, (v, behind_current, current, (x, behind_of, of, (cursor, middle, named, rest)))) =
     (cursor, middle, (u, behind_where, where_word, (v, behind_current, current, (x, behind_of, of, named))), rest)
@@ -148,25 +158,25 @@ module _ {n : ℕ} where
   agrees-assignment = agrees-fewer 1 (omega arith) (agrees-bind agrees-name (λ column. agrees-bind (agrees-expect_sign sign.Equal) (λ u. agrees-bind agrees-value (λ new.
       agrees-pure (record { column = column; value = new }) operators) refl) refl) refl)
 
-  pub agrees-updated : Agrees (Unit {0}) n spec.updated grammar.updated 3 (Head.name ∷ []) list_tail
-  unfolding spec.updated grammar.updated spec_lists.listed
+  pub agrees-updated : Agrees (Unit {0}) n spec.updated updated_line 3 (Head.name ∷ []) list_tail
+  unfolding spec.updated spec_lists.listed
   agrees-updated = agrees-bind agrees-relation (λ table. agrees-bind (agrees-expect_word (codes "set")) (λ u. agrees-bind (agrees-list list_tail agrees-assignment refl refl) (λ assignments.
       agrees-pure (Update table assignments) list_tail) refl) refl) refl
 
-  pub agrees-deleted : Agrees (Unit {0}) n spec.deleted grammar.deleted 2 (Head.word (codes "from") ∷ []) list_tail
-  unfolding spec.deleted grammar.deleted
+  pub agrees-deleted : Agrees (Unit {0}) n spec.deleted deleted_line 2 (Head.word (codes "from") ∷ []) list_tail
+  unfolding spec.deleted
   agrees-deleted = agrees-bind (agrees-expect_word (codes "from")) (λ u. agrees-bind agrees-relation (λ table. agrees-pure (Delete table) list_tail) refl) refl
 
-  pub agrees-change : Agrees (Unit {0}) n spec.change grammar.changed 3 (Head.word (codes "update") ∷ Head.word (codes "delete") ∷ []) list_tail
+  pub agrees-change : Agrees (Unit {0}) n spec.change changed_line 3 (Head.word (codes "update") ∷ Head.word (codes "delete") ∷ []) list_tail
   unfolding spec.change
-  agrees-change = agrees-same change-there change-back (agrees-word (codes "update") agrees-updated (agrees-word (codes "delete") agrees-deleted (agrees-refuse 3 [] list_tail) refl) refl)
+  agrees-change = agrees-word (codes "update") agrees-updated (agrees-word (codes "delete") agrees-deleted (agrees-refuse 3 [] list_tail) refl) refl
 
-  pub agrees-searched : (c : Change) → Agrees (Unit {0}) n (spec.searched c) (grammar.searched c) 0 (Head.word (codes "where") ∷ Head.others where_tail ∷ []) returning_tail
+  pub agrees-searched : (c : Change) → Agrees (Unit {0}) n (spec.searched c) (grammar.searched (spec.statement_of c)) 0 (Head.word (codes "where") ∷ Head.others where_tail ∷ []) returning_tail
   unfolding spec.searched grammar.searched spec_query.condition is_reserved
   agrees-searched c = agrees-bind (agrees-maybe (codes "where") where_tail agrees-expression refl refl) (λ filter. agrees-bind (agrees-returning returning_tail refl refl) (λ given.
       agrees-pure (spec.statement_of c filter given) returning_tail) refl) refl
 
-  pub agrees-positioned : (c : Change) → Agrees (Unit {0}) n (spec.positioned c) (grammar.positioned c) 4 (Head.word (codes "where") ∷ []) returning_tail
+  pub agrees-positioned : (c : Change) → Agrees (Unit {0}) n (spec.positioned c) (grammar.positioned (spec.statement_of c)) 4 (Head.word (codes "where") ∷ []) returning_tail
   unfolding spec.positioned grammar.positioned spec.position
   agrees-positioned c = agrees-same (positioned-there c) (positioned-back c) (agrees-bind agrees-position (λ cursor. agrees-bind (agrees-returning returning_tail refl refl) (λ given.
       agrees-pure (record { statement = spec.statement_of c None given; cursor = cursor }) returning_tail) refl) refl)

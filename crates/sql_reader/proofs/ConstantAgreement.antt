@@ -11,13 +11,13 @@ use Rattle.sql_tree.specs.declared.expr.Numeral.{Numeral}
 use Rattle.sql_expr.specs.Reading.{Text, Tokens, Parser, and_then, ◌>>=◌, ◌>>◌, ◌<$>◌, pure, taken, taken_first, required, behind, expect_sign, sees_sign, same_sign}
 use Rattle.sql_expr.specs.Literals.{literal_of, literal_of_word, digits_of, numeral}
 use Rattle.sql_expr.specs.Lines.{Line, gives, mark}
-use Rattle.sql_expr.proofs.Agreement.{one}
+use Rattle.sql_expr.specs.Grammar.{literal as literal_line}
 use Rattle.sql_expr.specs.Lines as lines
 use Rattle.sql_reader_catalog.specs.Constants as spec
 use Rattle.sql_reader.specs.CatalogGrammar as grammar
 use Rattle.sql_expr.proofs.Heads.{Barred, Head, bars, is}
 use Rattle.sql_expr.proofs.Agreement.{Agrees, Stands, nothing, agrees-pure, agrees-bind, agrees-same, agrees-fewer, agrees-expect_sign, agrees-one, agrees-taken}
-use Rattle.sql_expr.proofs.TokenKinds.{stands-number}
+use Rattle.sql_expr.proofs.TokenKinds.{stands-number, literal-there, literal-back}
 use Rattle.sql_reader.proofs.OptionalAgreement.{agrees-read}
 
 -- a line with what it gives
@@ -47,8 +47,8 @@ word-none false true f e = cc
 word-none false false true e = cc
 word-none false false false e = refl
 
-pub stands-literal : Stands literal_of literal_heads literals
-stands-literal = record { shows = λ t a e. shows t a e; none = λ t b. none t b }
+pub stands-literal : Stands literal_of literal_line literal_heads literals
+stands-literal = record { shows = λ t a e. shows t a e; none = λ t b. none t b; there = literal-there; back = literal-back }
   where
     shows : (t : Token) (a : Literal) → literal_of t ≡ Some a → list_any (λ head. is head t) literal_heads ≡ true
     shows (token.Number d) a e = refl
@@ -105,14 +105,14 @@ same-constant (token.Backslash d ∷ ts) = refl
 abbrev pub constant_heads : List Head
 constant_heads = literal_heads ++ Head.sign sign.Minus ∷ []
 
-there : (ts : Tokens) (l : Literal) (us : Tokens) → (lines.◌or◌ (lines.◌>>=◌ (one literal_of) (λ l. gives l)) (lines.◌<$>◌ literal.Number grammar.negative)) ts l us → grammar.constant ts l us
+there : (ts : Tokens) (l : Literal) (us : Tokens) → (lines.◌or◌ (lines.◌>>=◌ literal_line (λ l. gives l)) (lines.◌<$>◌ literal.Number grammar.negative)) ts l us → grammar.constant ts l us
 unfolding grammar.constant
-there ts l us (inl alone) = inl (given (one literal_of) ts l us alone)
+there ts l us (inl alone) = inl (given literal_line ts l us alone)
 there ts l us (inr signed) = inr signed
 
-back : (ts : Tokens) (l : Literal) (us : Tokens) → grammar.constant ts l us → (lines.◌or◌ (lines.◌>>=◌ (one literal_of) (λ l. gives l)) (lines.◌<$>◌ literal.Number grammar.negative)) ts l us
+back : (ts : Tokens) (l : Literal) (us : Tokens) → grammar.constant ts l us → (lines.◌or◌ (lines.◌>>=◌ literal_line (λ l. gives l)) (lines.◌<$>◌ literal.Number grammar.negative)) ts l us
 unfolding grammar.constant
-back ts l us (inl alone) = inl (giving (one literal_of) ts l us alone)
+back ts l us (inl alone) = inl (giving literal_line ts l us alone)
 back ts l us (inr signed) = inr signed
 
 module _ {S : Type 0} {n : ℕ} where

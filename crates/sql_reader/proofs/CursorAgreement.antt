@@ -1,5 +1,5 @@
 -- DECLARE is read exactly where it is spelt.
-use Rattle.std.proofs.Common.{◌≡◌, ◌⊎◌, inl, inr, ⊎_elim, ℕ, zero, suc, ◌+◌, ◌≤◌, Bool, true, false, cond, ◌||◌, List, [], ◌∷◌, ◌++◌, length, drop, Option, Some, None, codes, refl, sym, ap, subst, ◌∙◌, arith}
+use Rattle.std.proofs.Common.{◌≡◌, ◌⊎◌, inl, inr, ⊎_elim, ℕ, zero, suc, ◌+◌, ◌≤◌, Bool, true, false, cond, ◌||◌, List, [], ◌∷◌, ◌++◌, length, drop, map, Option, Some, None, codes, refl, sym, ap, subst, ◌∙◌, arith}
 use Rattle.std.specs.Prelude.{is_some}
 use Rattle.std.specs.Str.{bytes_eq}
 use Rattle.std.proofs.lemmas.Slice.Eq.{bytes_eq-Decides}
@@ -12,21 +12,28 @@ use Rattle.sql_tree.specs.declared.select.Select.{Select}
 use Rattle.sql_tree.specs.declared.statement.Statement.TheVariants as statement
 use Rattle.sql_expr.specs.Reading.{Text, Tokens, Parser, ◌>>◌, pure, taken, goes_on, behind, expect_word, sees_word}
 use Rattle.sql_expr.specs.Lines.{Line, gives, word as a_word, many}
-use Rattle.sql_expr.proofs.Agreement.{one}
 use Rattle.sql_expr.specs.Lines as lines
-use Rattle.sql_expr.specs.Grammar as expression
 use Rattle.sql_reader_session.specs.declared.cursors.CursorOption.{CursorOption}
 use Rattle.sql_reader_session.specs.declared.cursors.CursorOption.TheVariants.{Scroll, NoScroll, Insensitive, Asensitive}
 use Rattle.sql_reader_session.specs.Cursors.{option_of, cursor_option, with_option, no_options, options_from}
 use Rattle.sql_reader_session.specs.Cursors as spec
-use Rattle.sql_reader.specs.CursorGrammar.{gathered}
 use Rattle.sql_reader.specs.CursorGrammar as grammar
 use Rattle.sql_reader.specs.QueryGrammar as query_grammar
 use Rattle.sql_expr.proofs.Heads.{Barred, Head, bars, clear, begins, begins-clear, clear-begins, begins-left, begins-right, not-true}
-use Rattle.sql_expr.proofs.Agreement.{Agrees, bind_some, nothing, bar_word, same_value, same_rest, same_read, read_then, word-seen, sees-no-word, taken-cases, agrees-pure, agrees-bind, agrees-same, agrees-fewer, agrees-word, agrees-expect_word}
+use Rattle.sql_expr.proofs.Agreement.{Agrees, one, stands_for, taken-nothing, bind_some, nothing, bar_word, same_value, same_rest, same_read, read_then, word-seen, sees-no-word, taken-cases, agrees-pure, agrees-bind, agrees-same, agrees-fewer, agrees-word, agrees-expect_word}
 use Rattle.sql_expr.proofs.ExpressionAgreement.{agrees-name}
 use Rattle.sql_reader.proofs.QueryAgreement.{select_tail, agrees-select}
-use Rattle.sql_reader.proofs.KeywordAgreement.{agrees-map, taken-nothing}
+use Rattle.sql_reader.proofs.KeywordAgreement.{agrees-map}
+
+-- an option as it is read
+abbrev option_line : Line CursorOption
+option_line = lines.◌or◌ (lines.◌>>◌ (a_word (codes "scroll")) (gives Scroll)) (lines.◌or◌ (lines.◌>>◌ (a_word (codes "no")) (lines.◌>>◌ (a_word (codes "scroll")) (gives NoScroll)))
+    (lines.◌or◌ (lines.◌>>◌ (a_word (codes "insensitive")) (gives Insensitive)) (lines.◌>>◌ (a_word (codes "asensitive")) (gives Asensitive))))
+
+-- all that are read, one after another
+abbrev gathered : CursorOptions → List CursorOption → CursorOptions
+gathered options [] = options
+gathered options (option ∷ more) = gathered (with_option options option) more
 
 abbrev option_heads : List Head
 option_heads = Head.word (codes "scroll") ∷ Head.word (codes "no") ∷ Head.word (codes "insensitive") ∷ Head.word (codes "asensitive") ∷ []
@@ -53,17 +60,17 @@ no-option (token.Param d) b = refl
 no-option (token.Backslash l) b = refl
 
 -- a single option, by its token
-option-spelt : (ts : Tokens) (a : CursorOption) (us : Tokens) → one option_of ts a us → grammar.cursor_option ts a us
+option-spelt : (ts : Tokens) (a : CursorOption) (us : Tokens) → one option_of ts a us → option_line ts a us
 option-spelt ts a us (t, e, v) = by t e v
   where
     by-word : (w : Text) (b c d : Bool) → bytes_eq w (codes "scroll") ≡ b → bytes_eq w (codes "insensitive") ≡ c → bytes_eq w (codes "asensitive") ≡ d → ts ≡ token.Word w ∷ us
-        → cond b (Some Scroll) (cond c (Some Insensitive) (cond d (Some Asensitive) None)) ≡ Some a → grammar.cursor_option ts a us
+        → cond b (Some Scroll) (cond c (Some Insensitive) (cond d (Some Asensitive) None)) ≡ Some a → option_line ts a us
     by-word w true c d p q r e v = let same : a ≡ Scroll = cc in inl (tt, us, subst (λ x. ts ≡ token.Word x ∷ us) ((bytes_eq-Decides w (codes "scroll")).0 p) e, (same, refl))
     by-word w false true d p q r e v = let same : a ≡ Insensitive = cc in inr (inr (inl (tt, us, subst (λ x. ts ≡ token.Word x ∷ us) ((bytes_eq-Decides w (codes "insensitive")).0 q) e, (same, refl))))
     by-word w false false true p q r e v = let same : a ≡ Asensitive = cc in inr (inr (inr (tt, us, subst (λ x. ts ≡ token.Word x ∷ us) ((bytes_eq-Decides w (codes "asensitive")).0 r) e, (same, refl))))
     by-word w false false false p q r e v = cc
 
-    by : (t : Token) → ts ≡ t ∷ us → option_of t ≡ Some a → grammar.cursor_option ts a us
+    by : (t : Token) → ts ≡ t ∷ us → option_of t ≡ Some a → option_line ts a us
     by (token.Word w) e v = by-word w (bytes_eq w (codes "scroll")) (bytes_eq w (codes "insensitive")) (bytes_eq w (codes "asensitive")) refl refl refl e v
     by (token.Quoted q) e v = cc
     by (token.Sign s) e v = cc
@@ -78,12 +85,12 @@ behind_no negated = cond negated (expect_word (codes "scroll") >> pure (Some NoS
 
 -- what is read of one option: it, or nothing
 option-cases : (ts : Tokens) (o : Option CursorOption) (us : Tokens) → cursor_option ts ≡ Some (o, us)
-    → ((a : CursorOption) × (o ≡ Some a) × grammar.cursor_option ts a us) ⊎ ((o ≡ None) × (us ≡ ts))
+    → ((a : CursorOption) × (o ≡ Some a) × option_line ts a us) ⊎ ((o ≡ None) × (us ≡ ts))
 unfolding cursor_option
 option-cases ts o us read = by (sees_word (codes "no") ts) refl read
   where
     by : (b : Bool) → sees_word (codes "no") ts ≡ b → behind_no (sees_word (codes "no") ts) (behind (sees_word (codes "no") ts) ts) ≡ Some (o, us)
-        → ((a : CursorOption) × (o ≡ Some a) × grammar.cursor_option ts a us) ⊎ ((o ≡ None) × (us ≡ ts))
+        → ((a : CursorOption) × (o ≡ Some a) × option_line ts a us) ⊎ ((o ≡ None) × (us ≡ ts))
     by true q e =
         let read : (expect_word (codes "scroll") >> pure (Some NoScroll)) (drop 1 ts) ≡ Some (o, us) = subst (λ x. behind_no x (behind x ts) ≡ Some (o, us)) q e in
         let parts = bind_some (expect_word (codes "scroll") (drop 1 ts)) (λ u. pure (Some NoScroll)) o us read in
@@ -99,7 +106,7 @@ option-cases ts o us read = by (sees_word (codes "no") ts) refl read
         (taken-cases option_of ts o us (subst (λ x. behind_no x (behind x ts) ≡ Some (o, us)) q e))
 
 -- an option that is spelt is read
-option-read : (ts : Tokens) (a : CursorOption) (us : Tokens) → grammar.cursor_option ts a us → (cursor_option ts ≡ Some (Some a, us)) × (1 + length us ≤ length ts) × (begins option_heads ts ≡ true)
+option-read : (ts : Tokens) (a : CursorOption) (us : Tokens) → option_line ts a us → (cursor_option ts ≡ Some (Some a, us)) × (1 + length us ≤ length ts) × (begins option_heads ts ≡ true)
 unfolding cursor_option sees_word taken
 option-read ts a us (inl (u, middle, e, same)) = (
   ap cursor_option e ∙ same_read (Some Scroll) (Some a) middle us (ap Some same.0) same.1,
@@ -128,17 +135,84 @@ option-none ts c =
     let unseen = sees-no-word (codes "no") ts (begins-clear (bar_word (codes "no")) (Head.others bar_options ∷ []) ts refl (clear-begins bar_options ts c)) in
     ap (λ x. behind_no x (behind x ts)) unseen ∙ taken-nothing option_of ts (none ts c)
   where
-    none : (ts : Tokens) → clear bar_options ts ≡ true → lines.stands_for option_of ts ≡ false
+    none : (ts : Tokens) → clear bar_options ts ≡ true → stands_for option_of ts ≡ false
     none [] c = refl
     none (t ∷ ts) c = ap is_some (no-option t (not-true _ c))
 
 -- ---- options one behind another
 
-abbrev pub options_line : Line CursorOptions
-options_line = lines.◌<$>◌ (gathered no_options) (many grammar.cursor_option)
+abbrev read_options : Line CursorOptions
+read_options = lines.◌<$>◌ (gathered no_options) (many option_line)
+
+abbrev options_line : Line CursorOptions
+options_line = lines.◌<$>◌ grammar.gathered (many grammar.cursor_option)
+
+abbrev alone : CursorOption → CursorOptions
+alone = with_option no_options
+
+option-there : (ts : Tokens) (a : CursorOption) (us : Tokens) → option_line ts a us → grammar.cursor_option ts (alone a) us
+option-there ts a us (inl (u, middle, e, (value, end))) = inl (u, middle, e, (ap alone value, end))
+option-there ts a us (inr (inl (u, middle, e, (v, last, k, (value, end))))) = inr (inl (u, middle, e, (v, last, k, (ap alone value, end))))
+option-there ts a us (inr (inr (inl (u, middle, e, (value, end))))) = inr (inr (inl (u, middle, e, (ap alone value, end))))
+option-there ts a us (inr (inr (inr (u, middle, e, (value, end))))) = inr (inr (inr (u, middle, e, (ap alone value, end))))
+
+option-back : (ts : Tokens) (o : CursorOptions) (us : Tokens) → grammar.cursor_option ts o us → (a : CursorOption) × (o ≡ alone a) × option_line ts a us
+option-back ts o us (inl (u, middle, e, (value, end))) = (Scroll, value, inl (u, middle, e, (refl, end)))
+option-back ts o us (inr (inl (u, middle, e, (v, last, k, (value, end))))) = (NoScroll, value, inr (inl (u, middle, e, (v, last, k, (refl, end)))))
+option-back ts o us (inr (inr (inl (u, middle, e, (value, end))))) = (Insensitive, value, inr (inr (inl (u, middle, e, (refl, end)))))
+option-back ts o us (inr (inr (inr (u, middle, e, (value, end))))) = (Asensitive, value, inr (inr (inr (u, middle, e, (refl, end)))))
+
+many-there : (ts : Tokens) (found : List CursorOption) (us : Tokens) → many option_line ts found us → many grammar.cursor_option ts (map alone found) us
+many-there ts [] us spelt = spelt
+many-there ts (a ∷ found) us (middle, first, rest) = (middle, option-there ts a middle first, many-there middle found us rest)
+
+many-back : (ts : Tokens) (written : List CursorOptions) (us : Tokens) → many grammar.cursor_option ts written us → (found : List CursorOption) × (written ≡ map alone found) × many option_line ts found us
+many-back ts [] us spelt = ([], refl, spelt)
+many-back ts (o ∷ written) us (middle, first, rest) =
+    let here = option-back ts o middle first in
+    let later = many-back middle written us rest in
+    (here.0 ∷ later.0, ap (λ x. x ∷ written) here.1 ∙ ap (λ xs. alone here.0 ∷ xs) later.1, (middle, here.2, later.2))
+
+or-set : (b x : Bool) → (true || x) ≡ (b || (true || x))
+or-set true x = refl
+or-set false x = refl
+
+-- those before, or those that are written
+abbrev joined : CursorOptions → CursorOptions → CursorOptions
+joined a b = record { scroll = a.scroll || b.scroll; no_scroll = a.no_scroll || b.no_scroll; insensitive = a.insensitive || b.insensitive; asensitive = a.asensitive || b.asensitive }
+
+or-none : (b : Bool) → b ≡ (b || false)
+or-none true = refl
+or-none false = refl
+
+same-options : {a b c d p q r s : Bool} → a ≡ p → b ≡ q → c ≡ r → d ≡ s
+    → ◌≡◌ {A = CursorOptions} (record { scroll = a; no_scroll = b; insensitive = c; asensitive = d }) (record { scroll = p; no_scroll = q; insensitive = r; asensitive = s })
+same-options {a = a} {b = b} {c = c} {d = d} {p = p} {q = q} {r = r} {s = s} i j k l =
+    ap (λ x. record { scroll = x; no_scroll = b; insensitive = c; asensitive = d }) i
+    ∙ (ap (λ x. record { scroll = p; no_scroll = x; insensitive = c; asensitive = d }) j
+    ∙ (ap (λ x. record { scroll = p; no_scroll = q; insensitive = x; asensitive = d }) k
+    ∙ ap (λ x. record { scroll = p; no_scroll = q; insensitive = r; asensitive = x }) l))
+
+one-joined : (options : CursorOptions) (a : CursorOption) (later : CursorOptions) → joined (with_option options a) later ≡ joined options (joined (alone a) later)
+one-joined options Scroll later = same-options (or-set options.scroll later.scroll) refl refl refl
+one-joined options NoScroll later = same-options refl (or-set options.no_scroll later.no_scroll) refl refl
+one-joined options Insensitive later = same-options refl refl (or-set options.insensitive later.insensitive) refl
+one-joined options Asensitive later = same-options refl refl refl (or-set options.asensitive later.asensitive)
+
+gathered-joined : (options : CursorOptions) (found : List CursorOption) → gathered options found ≡ joined options (grammar.gathered (map alone found))
+gathered-joined options [] = same-options (or-none options.scroll) (or-none options.no_scroll) (or-none options.insensitive) (or-none options.asensitive)
+gathered-joined options (a ∷ found) = gathered-joined (with_option options a) found ∙ one-joined options a (grammar.gathered (map alone found))
+
+options-there : (ts : Tokens) (all : CursorOptions) (us : Tokens) → read_options ts all us → options_line ts all us
+options-there ts all us (found, middle, spelt, (value, end)) = (map alone found, middle, many-there ts found middle spelt, (value ∙ gathered-joined no_options found, end))
+
+options-back : (ts : Tokens) (all : CursorOptions) (us : Tokens) → options_line ts all us → read_options ts all us
+options-back ts all us (written, middle, spelt, (value, end)) =
+    let read = many-back ts written middle spelt in
+    (read.0, middle, read.2, (value ∙ (ap grammar.gathered read.1 ∙ sym (gathered-joined no_options read.0)), end))
 
 options-sound : (turns : ℕ) (options : CursorOptions) (ts : Tokens) (all : CursorOptions) (us : Tokens) → options_from turns options ts ≡ Some (all, us)
-    → (found : List CursorOption) × many grammar.cursor_option ts found us × (all ≡ gathered options found)
+    → (found : List CursorOption) × many option_line ts found us × (all ≡ gathered options found)
 unfolding options_from
 options-sound zero options ts all us read = ([], same_rest options all ts us read, same_value options all ts us read)
 options-sound (suc turns) options ts all us read =
@@ -153,17 +227,17 @@ options-sound (suc turns) options ts all us read =
     ([], same_rest options all parts.middle us ended ∙ none.1, same_value options all parts.middle us ended))
     (option-cases ts parts.a parts.middle parts.begun)
 
-options-take : (ts : Tokens) (found : List CursorOption) (us : Tokens) → many grammar.cursor_option ts found us → length us ≤ length ts
+options-take : (ts : Tokens) (found : List CursorOption) (us : Tokens) → many option_line ts found us → length us ≤ length ts
 options-take ts [] us spelt = let same = ap length spelt in omega (arith, same)
 options-take ts (a ∷ found) us spelt =
     let here = (option-read ts a spelt.0 spelt.1).1 in
     let rest = options-take spelt.0 found us spelt.2 in omega (arith, here, rest)
 
-options-start : (ts : Tokens) (found : List CursorOption) (us : Tokens) → many grammar.cursor_option ts found us → clear bar_options us ≡ true → begins (option_heads ++ Head.others bar_options ∷ []) ts ≡ true
+options-start : (ts : Tokens) (found : List CursorOption) (us : Tokens) → many option_line ts found us → clear bar_options us ≡ true → begins (option_heads ++ Head.others bar_options ∷ []) ts ≡ true
 options-start ts [] us spelt c = begins-right option_heads (Head.others bar_options ∷ []) ts (clear-begins bar_options ts (subst (λ vs. clear bar_options vs ≡ true) spelt c))
 options-start ts (a ∷ found) us spelt c = begins-left option_heads (Head.others bar_options ∷ []) ts (option-read ts a spelt.0 spelt.1).2
 
-options-complete : (turns : ℕ) (options : CursorOptions) (ts : Tokens) (found : List CursorOption) (us : Tokens) → length ts ≤ turns → many grammar.cursor_option ts found us → clear bar_options us ≡ true
+options-complete : (turns : ℕ) (options : CursorOptions) (ts : Tokens) (found : List CursorOption) (us : Tokens) → length ts ≤ turns → many option_line ts found us → clear bar_options us ≡ true
     → options_from turns options ts ≡ Some (gathered options found, us)
 unfolding options_from
 options-complete zero options ts [] us enough spelt c = ap (λ vs. Some (options, vs)) (sym spelt)
@@ -188,7 +262,7 @@ of_query cursor options held = lines.◌<$>◌ (declared cursor options held) qu
 
 -- the line in the parts in which it is read
 abbrev ordered : Line Command
-ordered = lines.◌>>=◌ expression.name (λ cursor. lines.◌>>=◌ options_line (λ options. lines.◌>>=◌ for_line (of_query cursor options)))
+ordered = lines.◌>>=◌ lines.name (λ cursor. lines.◌>>=◌ options_line (λ options. lines.◌>>=◌ for_line (of_query cursor options)))
 
 abbrev bar_hold : Barred
 bar_hold = record { words = codes "with" ∷ codes "without" ∷ []; signs = []; names = false; numbers = false; strings = false; params = false }
@@ -196,13 +270,13 @@ bar_hold = record { words = codes "with" ∷ codes "without" ∷ []; signs = [];
 module _ {n : ℕ} where
   agrees-options : Agrees (Unit {0}) n spec.cursor_options options_line 0 (option_heads ++ Head.others bar_options ∷ []) bar_options
   unfolding spec.cursor_options
-  agrees-options = record {
+  agrees-options = agrees-same options-there options-back (record {
     sound = λ s ts all us read. let found = options-sound (length ts) no_options ts all us read in (found.0, us, found.1, (found.2, refl));
     complete = λ ts all us within (found, middle, spelt, same) c.
         options-complete (length ts) no_options ts found middle (omega arith) spelt (subst (λ vs. clear bar_options vs ≡ true) same.1 c) ∙ same_read (gathered no_options found) all middle us same.0 same.1;
     starts = λ ts all us (found, middle, spelt, same) c. options-start ts found middle spelt (subst (λ vs. clear bar_options vs ≡ true) same.1 c);
     takes = λ ts all us (found, middle, spelt, same). let rest = options-take ts found middle spelt in let end = ap length same.1 in omega (arith, rest, end);
-  }
+  })
 
   -- [(WITH | WITHOUT) HOLD]
   agrees-hold : Agrees (Unit {0}) n spec.hold grammar.hold 0 (Head.word (codes "with") ∷ Head.word (codes "without") ∷ Head.others bar_hold ∷ []) bar_hold

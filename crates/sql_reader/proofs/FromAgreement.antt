@@ -120,6 +120,6 @@ module _ {n : ℕ} where
   unfolding spec.chain grammar.chain is_reserved
   agrees-chain = agrees-bind agrees-item (λ first. agrees-bind agrees-joins (λ further. agrees-pure (record { first = first; joins = further }) chain_tail) refl) refl
 
-  pub agrees-from : Agrees (Unit {0}) n spec.from (grammar.any (lines.◌>>◌ (a_word (codes "from")) (lines.list grammar.chain))) 0 (Head.word (codes "from") ∷ Head.others from_tail ∷ []) from_tail
+  pub agrees-from : Agrees (Unit {0}) n spec.from (lines.any (lines.◌>>◌ (a_word (codes "from")) (lines.list grammar.chain))) 0 (Head.word (codes "from") ∷ Head.others from_tail ∷ []) from_tail
   unfolding spec.from spec_lists.listed
   agrees-from = agrees-any (codes "from") from_tail (agrees-list from_tail agrees-chain refl refl) refl refl

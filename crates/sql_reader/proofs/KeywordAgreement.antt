@@ -1,18 +1,18 @@
 -- Lines with a part that may be left out, and words that are a keyword by what stands behind them.
-use Rattle.std.proofs.Common.{◌≡◌, inl, inr, ⊎_elim, ℕ, suc, ◌≤◌, Bool, true, false, cond, ◌&&◌, ◌||◌, List, [], ◌∷◌, ◌++◌, length, drop, Option, Some, None, refl, sym, ap, subst, ◌∙◌, arith}
+use Rattle.std.proofs.Common.{◌≡◌, inl, inr, ⊎_elim, ℕ, suc, ◌≤◌, Bool, true, false, cond, ◌&&◌, ◌||◌, List, [], ◌∷◌, ◌++◌, length, drop, Option, Some, None, codes, refl, sym, ap, subst, ◌∙◌, arith}
 use Rattle.std.specs.Prelude.{is_some, min}
+use Prim.Native.String.{String}
 use Rattle.std.proofs.lemmas.Grind.{common_steps}
 use Rattle.sql_tokens.specs.declared.token.Token.{Token}
 use Rattle.sql_tokens.specs.declared.token.Token.TheVariants as token
 use Rattle.sql_expr.specs.Reading.{Text, Tokens, Parser, ◌>>=◌, ◌>>◌, ◌<$>◌, pure, taken, taken_first, required, behind, eat_word, sees_word}
 use Rattle.sql_expr.specs.Names.{name_of, sees_name}
-use Rattle.sql_expr.specs.Lines.{Line, gives, unless, word as a_word, maybe}
-use Rattle.sql_expr.proofs.Agreement.{one, stands_for}
+use Rattle.sql_expr.specs.Lines.{Line, gives, ahead, unless, word as a_word, name, maybe}
 use Rattle.sql_expr.specs.Lines as lines
 use Rattle.sql_reader_session.specs.Keywords.{eat_either}
-use Rattle.sql_expr.proofs.Heads.{Barred, Head, clear, begins, all_avoid, clear-begins, begins-left, begins-right, not-true}
-use Rattle.sql_expr.proofs.Agreement.{Agrees, Stands, tests-word, eaten, nothing, bar_word, bind_some, same_value, same_rest, same_read, read_then, taken-some, taken-cases, agrees-test, agrees-same, agrees-fewer}
-use Rattle.sql_expr.proofs.TokenKinds.{bar_names, stands-name}
+use Rattle.sql_expr.proofs.Heads.{Barred, Head, clear, begins, all_avoid, clear-begins, begins-left, begins-right, and-left, and-right}
+use Rattle.sql_expr.proofs.Agreement.{Agrees, tests-word, word-seen, sees-word, eaten, nothing, bar_word, bind_some, same_value, same_rest, same_read, read_then, agrees-test, agrees-same, agrees-fewer}
+use Rattle.sql_expr.proofs.TokenKinds.{stands-name}
 
 -- `[P] Q` is `P Q | Q`
 pub agrees-bracket : {S : Type 0} {n : ℕ} {A B : Type 0} {p : Parser B} {P : Line A} {Q : Line B} {k : ℕ} {heads : List Head} {tail : Barred}
@@ -128,121 +128,108 @@ min-left a b = grind (arith, common_steps)
 min-right : (a b : ℕ) → min a b ≤ b
 min-right a b = grind (arith, common_steps)
 
--- what taking leaves where the token stands for nothing
-pub taken-nothing : {A : Type 0} (value_of : Token → Option A) (ts : Tokens) → stands_for value_of ts ≡ false → taken value_of ts ≡ Some (None, ts)
-unfolding taken
-taken-nothing value_of [] none = refl
-taken-nothing {A = A} value_of (t ∷ ts) none = by (value_of t) none
-  where
-    by : (o : Option A) → is_some o ≡ false → taken_first o t ts ≡ Some (None, t ∷ ts)
-    by (Some a) e = cc
-    by None e = refl
-
-taken-something : {A : Type 0} (value_of : Token → Option A) (ts : Tokens) (a : A) (us : Tokens) → one value_of ts a us → taken value_of ts ≡ Some (Some a, us)
-taken-something value_of ts a us (t, e, v) = ap (taken value_of) e ∙ taken-some value_of t us a v
-
--- by whether the next token stands for a value, which is written so in the line
-pub agrees-unless : {S : Type 0} {n : ℕ} {A B : Type 0} {value_of : Token → Option A} {first : List Head} {bar : Barred} {P : A → Line B} {Q : Line B} {k m : ℕ} {ahead heads : List Head} {tail : Barred} (h : Option A → Parser B)
-    → Stands value_of first bar → ((a : A) → Agrees S n (h (Some a)) (P a) k ahead tail) → Agrees S n (h None) Q m heads tail
-    → Agrees S n (taken value_of >>= h) (lines.◌or◌ (lines.◌>>=◌ (one value_of) P) (lines.◌>>◌ (unless value_of) Q)) (min k m) (first ++ heads) tail
-agrees-unless {S = S} {value_of = value_of} {first = first} {Q = Q} {k = k} {m = m} {heads = heads} {tail = tail} h stands found_so not_so = record {
-  sound = λ s ts b us e.
-      let parts = bind_some (taken value_of ts) h b us e in
-      ⊎_elim
-      (λ some. inl (some.0, parts.middle, some.2, (found_so some.0).sound s parts.middle b us (ap (λ o. h o parts.middle) (sym some.1) ∙ parts.ended)))
-      (λ none. inr (tt, parts.middle, (none.1, none.2), not_so.sound s parts.middle b us (ap (λ o. h o parts.middle) (sym none.0) ∙ parts.ended)))
-      (taken-cases value_of ts parts.a parts.middle parts.begun);
-  complete = λ ts b us within spelt c. ⊎_elim
-      (λ left.
-      let shorter = ap length left.2.1 in
-      read_then h (Some left.0) left.1 (taken-something value_of ts left.0 left.1 left.2) ((found_so left.0).complete left.1 b us (omega arith) left.3 c))
-      (λ right.
-      let here = right.2 in
-      read_then h None ts (taken-nothing value_of ts here.1) (not_so.complete ts b us within (subst (λ vs. Q vs b us) here.0 right.3) c))
-      spelt;
-  starts = λ ts b us spelt c. ⊎_elim
-      (λ left.
-      let here = left.2 in
-      begins-left first heads ts (subst (λ vs. begins first vs ≡ true) (sym here.1) (stands.shows here.0 left.0 here.2)))
-      (λ right. begins-right first heads ts (not_so.starts ts b us (subst (λ vs. Q vs b us) right.2.0 right.3) c))
-      spelt;
-  takes = λ ts b us spelt. ⊎_elim
-      (λ left.
-      let shorter = ap length left.2.1 in
-      let more = (found_so left.0).takes left.1 b us left.3 in
-      let least = min-left k m in omega arith)
-      (λ right.
-      let more = not_so.takes ts b us (subst (λ vs. Q vs b us) right.2.0 right.3) in
-      let least = min-right k m in omega arith)
-      spelt;
-}
-
 -- ---- a word that is the keyword by what stands behind it
 
 -- the word, with what follows behind it
 abbrev pub sees_before : Text → (Tokens → Bool) → Tokens → Bool
 sees_before w follows ts = sees_word w ts && follows (drop 1 ts)
 
-both-left : (a b : Bool) → (a && b) ≡ true → a ≡ true
-both-left true b e = refl
-both-left false b e = cc
-
-both-true : (a b : Bool) → a ≡ true → b ≡ true → (a && b) ≡ true
+pub both-true : (a b : Bool) → a ≡ true → b ≡ true → (a && b) ≡ true
 both-true true b e k = k
 both-true false b e k = cc
 
-pub neither : (a b : Bool) → b ≡ false → (a && b) ≡ false
-neither true b e = e
-neither false b e = refl
+-- A test of the next tokens, which says whether the word stands before the line.
+pub record Looks {A : Type 0} (test : Tokens → Bool) (w : Text) (F : Line A) : Type 0 where
+  pub yes : (ts : Tokens) → test ts ≡ true → (ts ≡ token.Word w ∷ drop 1 ts) × ((a : A) × (vs : Tokens) × F (drop 1 ts) a vs)
+  pub sure : (us : Tokens) (a : A) (vs : Tokens) → F us a vs → test (token.Word w ∷ us) ≡ true
 
-pub agrees-keyword : {S : Type 0} {n : ℕ} {B : Type 0} {P Q : Line B} {k m : ℕ} {ahead heads : List Head} {tail : Barred} (w : Text) (follows : Tokens → Bool) (f : Bool → Parser B)
-    → ((us : Tokens) → begins ahead us ≡ true → follows us ≡ true)
-    → ((ts : Tokens) (b : B) (us : Tokens) → Q ts b us → clear tail us ≡ true → sees_before w follows ts ≡ false)
-    → Agrees S n (f true) P k ahead tail → Agrees S n (f false) Q m heads tail
-    → Agrees S n (eaten (sees_before w follows) >>= f) (lines.◌or◌ (lines.◌>>◌ (a_word w) P) Q) (min (suc k) m) (Head.word w ∷ heads) tail
-agrees-keyword {S = S} {B = B} {P = P} {Q = Q} {k = k} {m = m} {heads = heads} w follows f shown none found_so not_so = record {
-  sound = λ s ts b us e. sound-by s ts b us (sees_before w follows ts) refl e;
+pub agrees-keyword : {S : Type 0} {n : ℕ} {A B : Type 0} {test : Tokens → Bool} {F : Line A} {P Q : Line B} {k m : ℕ} {inner heads : List Head} {tail : Barred} (w : Text) (f : Bool → Parser B)
+    → Looks test w F → Agrees S n (f true) P k inner tail → Agrees S n (f false) Q m heads tail
+    → Agrees S n (eaten test >>= f) (lines.◌or◌ (lines.◌>>◌ (a_word w) (lines.◌>>◌ (ahead F) P)) (lines.◌>>◌ (unless (lines.◌>>◌ (a_word w) F)) Q)) (min (suc k) m) (Head.word w ∷ heads) tail
+agrees-keyword {S = S} {A = A} {B = B} {test = test} {F = F} {P = P} {Q = Q} {k = k} {m = m} {heads = heads} w f look found_so not_so = record {
+  sound = λ s ts b us e. sound-by s ts b us (test ts) refl e;
   complete = λ ts b us within spelt c. ⊎_elim
       (λ left.
-      let here = (tests-word w).known ts left.0 left.1 left.2 in
-      let shorter = here.2 in
-      let behind_it = shown left.1 (found_so.starts left.1 b us left.3 c) in
-      let seen = both-true (sees_word w ts) (follows (drop 1 ts)) here.0 (subst (λ vs. follows vs ≡ true) here.1 behind_it) in
-      ap (λ x. f x (behind x ts)) seen ∙ (ap (f true) (sym here.1) ∙ found_so.complete left.1 b us (omega arith) left.3 c))
-      (λ right. ap (λ x. f x (behind x ts)) (none ts b us right c) ∙ not_so.complete ts b us within right c)
+      let here = left.2 in
+      let next = left.3 in
+      let shorter = ap length here in
+      let seen = ap test here ∙ look.sure left.1 next.2.1.0 next.2.1.1 next.2.1.2 in
+      let rest = subst (λ vs. P vs b us) next.2.0 next.3 in
+      ap (λ x. f x (behind x ts)) seen ∙ (ap (f true) (ap (drop 1) here) ∙ found_so.complete left.1 b us (omega arith) rest c))
+      (λ right.
+      let rest = subst (λ vs. Q vs b us) right.2.0 right.3 in
+      ap (λ x. f x (behind x ts)) (unseen ts right.2.1 (test ts) refl) ∙ not_so.complete ts b us within rest c)
       spelt;
   starts = λ ts b us spelt c. ⊎_elim
       (λ left. begins-left (Head.word w ∷ []) heads ts ((tests-word w).known ts left.0 left.1 left.2).3)
-      (λ right. begins-right (Head.word w ∷ []) heads ts (not_so.starts ts b us right c))
+      (λ right. begins-right (Head.word w ∷ []) heads ts (not_so.starts ts b us (subst (λ vs. Q vs b us) right.2.0 right.3) c))
       spelt;
   takes = λ ts b us spelt. ⊎_elim
       (λ left.
-      let here = ((tests-word w).known ts left.0 left.1 left.2).2 in
-      let more = found_so.takes left.1 b us left.3 in
+      let shorter = ap length left.2 in
+      let next = left.3 in
+      let more = found_so.takes left.1 b us (subst (λ vs. P vs b us) next.2.0 next.3) in
       let least = min-left (suc k) m in omega arith)
-      (λ right. let more = not_so.takes ts b us right in let least = min-right (suc k) m in omega arith)
+      (λ right. let more = not_so.takes ts b us (subst (λ vs. Q vs b us) right.2.0 right.3) in let least = min-right (suc k) m in omega arith)
       spelt;
 }
   where
-    sound-by : S → (ts : Tokens) (b : B) (us : Tokens) (found : Bool) → sees_before w follows ts ≡ found → f (sees_before w follows ts) (behind (sees_before w follows ts) ts) ≡ Some (b, us) → (lines.◌or◌ (lines.◌>>◌ (a_word w) P) Q) ts b us
-    sound-by s ts b us true q e = inl (tt, drop 1 ts, (tests-word w).seen ts (both-left _ (follows (drop 1 ts)) q), found_so.sound s (drop 1 ts) b us (subst (λ x. f x (behind x ts) ≡ Some (b, us)) q e))
-    sound-by s ts b us false q e = inr (not_so.sound s ts b us (subst (λ x. f x (behind x ts) ≡ Some (b, us)) q e))
+    clashes : (ts : Tokens) → test ts ≡ false → (a : A) (vs : Tokens) → ¬ (lines.◌>>◌ (a_word w) F) ts a vs
+    clashes ts q a vs (u, middle, here, front) = let seen = sym q ∙ (ap test here ∙ look.sure middle a vs front) in cc
 
--- a name comes next
-pub name-seen : (us : Tokens) → begins (Head.name ∷ []) us ≡ true → sees_name us ≡ true
-unfolding sees_name
-name-seen [] e = cc
-name-seen (t ∷ us) e = alone (is_some (name_of t)) e
+    unseen : (ts : Tokens) → ((a : A) (vs : Tokens) → ¬ (lines.◌>>◌ (a_word w) F) ts a vs) → (b : Bool) → test ts ≡ b → test ts ≡ false
+    unseen ts none true q = let seen = look.yes ts q in absurd (none seen.1.0 seen.1.1 (tt, drop 1 ts, seen.0, seen.1.2))
+    unseen ts none false q = q
+
+    sound-by : S → (ts : Tokens) (b : B) (us : Tokens) (found : Bool) → test ts ≡ found → f (test ts) (behind (test ts) ts) ≡ Some (b, us)
+        → (lines.◌or◌ (lines.◌>>◌ (a_word w) (lines.◌>>◌ (ahead F) P)) (lines.◌>>◌ (unless (lines.◌>>◌ (a_word w) F)) Q)) ts b us
+    sound-by s ts b us true q e =
+        let seen = look.yes ts q in
+        inl (tt, drop 1 ts, seen.0, (tt, drop 1 ts, (refl, seen.1), found_so.sound s (drop 1 ts) b us (subst (λ x. f x (behind x ts) ≡ Some (b, us)) q e)))
+    sound-by s ts b us false q e = inr (tt, ts, (refl, clashes ts q), not_so.sound s ts b us (subst (λ x. f x (behind x ts) ≡ Some (b, us)) q e))
+
+least-before : (k : ℕ) → k ≤ min (suc k) k
+least-before k = grind (arith, common_steps)
+
+-- the word may be left out, and the same is read behind it and without it
+pub agrees-before : {S : Type 0} {n : ℕ} {A B : Type 0} {test : Tokens → Bool} {F : Line A} {p : Parser B} {P : Line B} {k : ℕ} {heads : List Head} {tail : Barred} (keyword : String)
+    → Looks test (codes keyword) F → Agrees S n p P k heads tail
+    → Agrees S n (λ ts. p (behind (test ts) ts)) (lines.◌>>◌ (lines.before keyword F) P) k (Head.word (codes keyword) ∷ heads) tail
+agrees-before {B = B} {F = F} {p = p} {P = P} {k = k} keyword look each = agrees-same there back (agrees-fewer k (least-before k) (agrees-keyword (codes keyword) (λ found. p) look each each))
   where
-    alone : (b : Bool) → (b || false) ≡ true → b ≡ true
-    alone true e = refl
-    alone false e = cc
+    parted : Line B
+    parted = lines.◌or◌ (lines.◌>>◌ (a_word (codes keyword)) (lines.◌>>◌ (ahead F) P)) (lines.◌>>◌ (unless (lines.◌>>◌ (a_word (codes keyword)) F)) P)
 
-pub no-name : (us : Tokens) → clear bar_names us ≡ true → sees_name us ≡ false
+    there : (ts : Tokens) (b : B) (us : Tokens) → parted ts b us → (lines.◌>>◌ (lines.before keyword F) P) ts b us
+    there ts b us (inl (u, middle, here, (v, start, front, rest))) = (v, start, inl (u, middle, here, front), rest)
+    there ts b us (inr (v, start, none, rest)) = (v, start, inr none, rest)
+
+    back : (ts : Tokens) (b : B) (us : Tokens) → (lines.◌>>◌ (lines.before keyword F) P) ts b us → parted ts b us
+    back ts b us (v, start, inl (u, middle, here, front), rest) = inl (u, middle, here, (v, start, front, rest))
+    back ts b us (v, start, inr none, rest) = inr (v, start, none, rest)
+
+-- ---- names that come next
+
+pub name-there : (us : Tokens) → sees_name us ≡ true → (n : Text) × name us n (drop 1 us)
 unfolding sees_name
-no-name [] c = refl
-no-name (t ∷ us) c = ap is_some (stands-name.none t (not-true _ c))
+name-there [] e = cc
+name-there (t ∷ us) e = by (name_of t) refl
+  where
+    by : (o : Option Text) → name_of t ≡ o → (n : Text) × name (t ∷ us) n us
+    by (Some n) q = (n, stands-name.there (t ∷ us) n us (t, refl, q))
+    by None q = let none = sym e ∙ ap is_some q in cc
 
--- a word behind which no name stands is the name itself
-pub no-keyword : (w : Text) (ts : Tokens) (a : Text) (us : Tokens) → one name_of ts a us → clear bar_names us ≡ true → sees_before w sees_name ts ≡ false
-no-keyword w ts a us spelt c = neither _ _ (ap (λ vs. sees_name (drop 1 vs)) spelt.1 ∙ no-name us c)
+pub name-sees : (us : Tokens) (n : Text) (vs : Tokens) → name us n vs → sees_name us ≡ true
+unfolding sees_name
+name-sees us n vs spelt = let here = stands-name.back us n vs spelt in ap sees_name here.1 ∙ ap is_some here.2
+
+pub behind-name : (us : Tokens) (n : Text) (vs : Tokens) → name us n vs → vs ≡ drop 1 us
+behind-name us n vs spelt = sym (ap (drop 1) (stands-name.back us n vs spelt).1)
+
+pub looks-name : (w : Text) → Looks (sees_before w sees_name) w name
+looks-name w = record {
+  yes = λ ts e.
+      let found = name-there (drop 1 ts) (and-right (sees_word w ts) (sees_name (drop 1 ts)) e) in
+      (word-seen w ts (and-left (sees_word w ts) (sees_name (drop 1 ts)) e), (found.0, drop 1 (drop 1 ts), found.1));
+  sure = λ us n vs spelt. both-true (sees_word w (token.Word w ∷ us)) (sees_name us) (sees-word w us) (name-sees us n vs spelt);
+}

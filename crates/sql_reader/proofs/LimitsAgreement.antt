@@ -1,5 +1,5 @@
 -- How many rows of a query are given is read exactly where it is spelt.
-use Rattle.std.proofs.Common.{◌≡◌, inl, inr, ℕ, Bool, true, false, cond, List, [], ◌∷◌, Some, None, codes, refl, sym, subst, ◌∙◌, arith}
+use Rattle.std.proofs.Common.{◌≡◌, inl, inr, ℕ, Bool, true, false, cond, List, [], ◌∷◌, Some, None, codes, refl, sym, ap, subst, ◌∙◌, arith}
 use Rattle.std.specs.List.{list_any}
 use Rattle.sql_tokens.specs.declared.token.Token.{Token}
 use Rattle.sql_tokens.specs.declared.token.Token.TheVariants as token
@@ -11,8 +11,7 @@ use Rattle.sql_tree.specs.declared.select.RowCount.TheVariants.{Number, Param, N
 use Rattle.sql_expr.specs.Reading.{Text, Tokens, Parser, ◌>>=◌, ◌<$>◌, pure, taken, required, behind, eat_word, sees_word}
 use Rattle.sql_expr.specs.Literals as spec_literals
 use Rattle.sql_expr.specs.Literals.{digits_of, param_of}
-use Rattle.sql_expr.specs.Lines.{Line, gives, word as a_word, mark, maybe}
-use Rattle.sql_expr.proofs.Agreement.{one}
+use Rattle.sql_expr.specs.Lines.{Line, gives, word as a_word, mark, number, parameter, maybe}
 use Rattle.sql_expr.specs.Lines as lines
 use Rattle.sql_reader_query.specs.Limits as spec
 use Rattle.sql_reader.specs.QueryGrammar as grammar
@@ -26,26 +25,20 @@ use Rattle.sql_reader.proofs.OptionalAgreement.{agrees-read, agrees-maybe}
 abbrev pub bar_params : Barred
 bar_params = record { words = []; signs = []; names = false; numbers = false; strings = false; params = true }
 
-pub stands-param : Stands param_of (Head.param ∷ []) bar_params
-stands-param = record { shows = shows; none = none }
+pub stands-param : Stands param_of parameter (Head.param ∷ []) bar_params
+stands-param = record { shows = shows; none = none; there = λ ts a us spelt. there ts a us spelt.0 spelt.1 spelt.2; back = λ ts a us same. (token.Param a, same, refl) }
   where
     shows : (t : Token) (a : Text) → param_of t ≡ Some a → list_any (λ head. is head t) (Head.param ∷ []) ≡ true
-    shows (token.Param d) a e = refl
-    shows (token.Word w) a e = cc
-    shows (token.Quoted q) a e = cc
-    shows (token.Sign s) a e = cc
-    shows (token.Text x) a e = cc
-    shows (token.Number d) a e = cc
-    shows (token.Backslash l) a e = cc
+    shows (token.Param d) a v = refl
+    shows t a v = cc
 
     none : (t : Token) → bars bar_params t ≡ false → param_of t ≡ None
     none (token.Param d) b = cc
-    none (token.Word w) b = refl
-    none (token.Quoted q) b = refl
-    none (token.Sign s) b = refl
-    none (token.Text x) b = refl
-    none (token.Number d) b = refl
-    none (token.Backslash l) b = refl
+    none t b = refl
+
+    there : (ts : Tokens) (a : Text) (us : Tokens) (t : Token) → ts ≡ t ∷ us → param_of t ≡ Some a → parameter ts a us
+    there ts a us (token.Param d) same v = let is : d ≡ a = cc in same ∙ ap (λ x. token.Param x ∷ us) is
+    there ts a us t same v = cc
 
 -- ---- NULL | parameter | ["-"] number
 
@@ -56,7 +49,7 @@ signed negative = do
   pure (record { negative = negative; digits = digits })
 
 abbrev signed_line : Bool → Line Numeral
-signed_line negative = lines.◌>>=◌ (one digits_of) (λ digits. gives (record { negative = negative; digits = digits }))
+signed_line negative = lines.◌>>=◌ number (λ digits. gives (record { negative = negative; digits = digits }))
 
 agrees-signed : {n : ℕ} (negative : Bool) → Agrees (Unit {0}) n (signed negative) (signed_line negative) 1 (Head.number ∷ []) nothing
 agrees-signed negative = agrees-bind (agrees-one stands-number) (λ digits. agrees-pure (record { negative = negative; digits = digits }) nothing) refl

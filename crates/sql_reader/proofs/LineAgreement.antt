@@ -9,11 +9,9 @@ use Rattle.sql_expr.specs.Reading.{Text, Tokens, Parser, ◌<$>◌, pure}
 use Rattle.sql_expr.specs.Lines.{Line, gives}
 use Rattle.sql_expr.specs.Lines as lines
 use Rattle.sql_expr.specs.Names as names
-use Rattle.sql_expr.specs.Grammar as expression_grammar
 use Rattle.sql_reader_session.specs.Prepared as prepared
 use Rattle.sql_reader_session.specs.Lines as spec
 use Rattle.sql_reader.specs.PreparedGrammar as prepared_grammar
-use Rattle.sql_reader.specs.LineGrammar.{line}
 use Rattle.sql_reader.specs.LineGrammar as grammar
 use Rattle.sql_expr.proofs.Heads.{clear}
 use Rattle.sql_expr.proofs.Agreement.{Agrees, agrees-pure, agrees-bind, agrees-wider}
@@ -22,6 +20,9 @@ use Rattle.sql_reader.proofs.KeywordAgreement.{agrees-map, anything, begins-anyt
 use Rattle.sql_reader.proofs.MotionAgreement.{agrees-count}
 use Rattle.sql_reader.proofs.StatementAgreement.{statement_tail}
 use Rattle.sql_reader.proofs.PreparedAgreement.{agrees-execute_tree, agrees-prepare_tree}
+
+abbrev line_of : Text → Line (Unit {0})
+line_of letters ts u us = ts ≡ token.Backslash letters ∷ us
 
 -- the line behind the backslash and its letters
 abbrev pub behind_letters : Text → Line Command
@@ -54,7 +55,7 @@ module _ (n : ℕ) where
   unfolding spec.run_tree grammar.run_tree
   run = agrees-anything (agrees-map command.Run (agrees-bind agrees-name (λ portal. agrees-map (λ rows. record { portal = portal; count = rows }) (agrees-wider statement_tail refl agrees-count)) refl))
 
-  end : Behind (command.EndPortal <$> names.name) (lines.◌<$>◌ command.EndPortal expression_grammar.name)
+  end : Behind (command.EndPortal <$> names.name) (lines.◌<$>◌ command.EndPortal lines.name)
   end = agrees-anything (agrees-map command.EndPortal (agrees-wider statement_tail refl agrees-name))
 
   module _ (letters : Text) where
@@ -71,11 +72,11 @@ module _ (n : ℕ) where
         (pick letters (codes "sync") _ _ ts a us e)) (pick letters (codes "end") _ _ ts a us e)) (pick letters (codes "run") _ _ ts a us e)) (pick letters (codes "bind") _ _ ts a us e))
         (pick letters (codes "parse") _ _ ts a us e)) (pick letters (codes "cursors") _ _ ts a us e)) (pick letters (codes "prepared") _ _ ts a us read)
       where
-        at : {p : Parser Command} {P : Line Command} (w : Text) → Behind p P → (letters ≡ w) × (p ts ≡ Some (a, us)) → lines.◌>>◌ (line w) P (token.Backslash letters ∷ ts) a us
+        at : {p : Parser Command} {P : Line Command} (w : Text) → Behind p P → (letters ≡ w) × (p ts ≡ Some (a, us)) → lines.◌>>◌ (line_of w) P (token.Backslash letters ∷ ts) a us
         at w agrees x = (tt, ts, ap (λ l. token.Backslash l ∷ ts) x.0, agrees.sound tt ts a us x.1)
 
     -- what stands behind the letters that are spelt
-    rest-of : (P : Line Command) (w : Text) (ts : Tokens) (a : Command) (us : Tokens) → lines.◌>>◌ (line w) P (token.Backslash letters ∷ ts) a us → (letters ≡ w) × P ts a us
+    rest-of : (P : Line Command) (w : Text) (ts : Tokens) (a : Command) (us : Tokens) → lines.◌>>◌ (line_of w) P (token.Backslash letters ∷ ts) a us → (letters ≡ w) × P ts a us
     rest-of P w ts a us (u, middle, e, rest) =
         let same : letters ≡ w = cc in
         let moved : middle ≡ ts = cc in
@@ -85,7 +86,7 @@ module _ (n : ℕ) where
     unfolding spec.backslash_line grammar.backslash_line
     line-complete ts a us within spelt c = by spelt
       where
-        at : {p : Parser Command} {P : Line Command} (w : Text) → spec.backslash_line w ≡ p → Behind p P → lines.◌>>◌ (line w) P (token.Backslash letters ∷ ts) a us → spec.backslash_line letters ts ≡ Some (a, us)
+        at : {p : Parser Command} {P : Line Command} (w : Text) → spec.backslash_line w ≡ p → Behind p P → lines.◌>>◌ (line_of w) P (token.Backslash letters ∷ ts) a us → spec.backslash_line letters ts ≡ Some (a, us)
         at {P = P} w same agrees here =
             let rest = rest-of P w ts a us here in
             ap (λ l. spec.backslash_line l ts) rest.0 ∙ (ap (λ p. p ts) same ∙ agrees.complete ts a us within rest.1 c)
@@ -103,7 +104,7 @@ module _ (n : ℕ) where
     unfolding grammar.backslash_line
     line-takes ts a us spelt = by spelt
       where
-        at : {p : Parser Command} {P : Line Command} (w : Text) → Behind p P → lines.◌>>◌ (line w) P (token.Backslash letters ∷ ts) a us → 0 + length us ≤ length ts
+        at : {p : Parser Command} {P : Line Command} (w : Text) → Behind p P → lines.◌>>◌ (line_of w) P (token.Backslash letters ∷ ts) a us → 0 + length us ≤ length ts
         at {P = P} w agrees here = agrees.takes ts a us (rest-of P w ts a us here).1
 
         by : behind_letters letters ts a us → 0 + length us ≤ length ts

@@ -1,6 +1,8 @@
 -- FETCH, MOVE and CLOSE are read exactly where they are spelt.
-use Rattle.std.proofs.Common.{◌≡◌, ◌⊎◌, inl, inr, ⊎_elim, ℕ, Bool, true, false, cond, ◌||◌, List, [], ◌∷◌, ◌++◌, Option, Some, None, codes, refl, sym, ap, subst, ◌∙◌, arith}
-use Rattle.std.specs.Prelude.{ℤ}
+use Rattle.std.proofs.Common.{◌≡◌, ◌⊎◌, inl, inr, ⊎_elim, ℕ, ◌+◌, ◌≤◌, Bool, true, false, cond, ◌||◌, List, [], ◌∷◌, ◌++◌, length, Option, Some, None, codes, refl, sym, ap, subst, ◌∙◌, arith}
+use Rattle.std.specs.Prelude.{ℤ, ◌*◌, ◌^◌, ◌-◌, nat_le}
+use Rattle.std.proofs.Math.Nat.{add-mul, mul_assoc, pow-succ'}
+use Rattle.std.proofs.lemmas.Bool.{leb-true, le-leb}
 use Rattle.std.specs.List.{list_any}
 use Rattle.std.specs.Str.{bytes_eq}
 use Rattle.std.proofs.lemmas.Slice.Eq.{bytes_eq-Decides}
@@ -11,67 +13,86 @@ use Rattle.sql_tree.specs.declared.command.Command.TheVariants as command
 use Rattle.sql_tree.specs.declared.cursors.Motion.{Motion}
 use Rattle.sql_tree.specs.declared.cursors.Motion.TheVariants as moves
 use Rattle.sql_expr.specs.Reading.{Text, Tokens, Outcome, Parser, and_then, ◌>>=◌, ◌<$>◌, pure, taken}
-use Rattle.sql_expr.specs.Lines.{Line, gives, unless, word as a_word, mark, maybe}
-use Rattle.sql_expr.proofs.Agreement.{one}
+use Rattle.sql_expr.specs.Lines.{Line, gives, unless, number, word as a_word, mark, maybe}
 use Rattle.sql_expr.specs.Lines as lines
-use Rattle.sql_expr.specs.Literals.{digits_of}
 use Rattle.sql_expr.specs.Reserved.{is_reserved}
 use Rattle.sql_reader_session.specs.declared.motions.Direction.{Direction}
 use Rattle.sql_reader_session.specs.declared.motions.Direction.TheVariants as direction
 use Rattle.sql_reader_session.specs.Cursors as cursors
 use Rattle.sql_reader_session.specs.Motions.{direction_of, direction_of_word}
 use Rattle.sql_reader_session.specs.Motions as spec
-use Rattle.sql_reader_session.specs.Numbers.{number_of, begins_integer, signed}
+use Rattle.sql_reader_session.specs.Numbers.{decimal_after, number_of, begins_integer, signed}
 use Rattle.sql_reader_session.specs.Numbers as numbers
 use Rattle.sql_reader.specs.CursorGrammar as grammar
 use Rattle.sql_expr.proofs.Heads.{Barred, Head, bars, is, clear, begins, begins-clear, clear-begins}
-use Rattle.sql_expr.proofs.Agreement.{Agrees, Stands, nothing, agrees-pure, agrees-bind, agrees-same, agrees-wider, agrees-word, agrees-one, agrees-test, tests-sign}
+use Rattle.sql_expr.proofs.Agreement.{Agrees, Stands, one, agrees-unless, nothing, agrees-pure, agrees-bind, agrees-same, agrees-wider, agrees-word, agrees-one, agrees-test, tests-sign}
 use Rattle.sql_expr.proofs.ExpressionAgreement.{agrees-name}
 use Rattle.sql_expr.proofs.TokenKinds.{stands-number}
 use Rattle.sql_reader.proofs.OptionalAgreement.{agrees-read, agrees-looking}
-use Rattle.sql_reader.proofs.KeywordAgreement.{agrees-map, agrees-required, exactly, agrees-anything, clear-nothing, agrees-unless, agrees-flag, agrees-either}
+use Rattle.sql_reader.proofs.KeywordAgreement.{agrees-map, agrees-required, exactly, agrees-anything, clear-nothing, agrees-either}
 use Rattle.sql_reader.proofs.SettingAgreement.{numeral_heads}
 
 -- ---- numbers
+
+-- digits write what is gathered from the front
+decimal-after : (n : ℕ) (digits : Text) → decimal_after n digits ≡ n * 10 ^ length digits + grammar.decimal digits
+decimal-after n [] = omega arith
+decimal-after n (d ∷ digits) =
+    let rest = decimal-after (n * 10 + (d - 48)) digits in
+    let parts = add-mul (n * 10) (d - 48) (10 ^ length digits) in
+    let front = mul_assoc n 10 (10 ^ length digits) ∙ sym (ap (λ x. n * x) (pow-succ' 10 (length digits))) in
+    omega (arith, rest, parts, front)
+
+number-known : (digits : Text) (a : ℕ) → number_of digits ≡ Some a → (a ≡ grammar.decimal digits) × (a ≤ 2147483647)
+unfolding number_of
+number-known digits a found = by (nat_le (decimal_after 0 digits) 2147483647) refl found
+  where
+    by : (b : Bool) → nat_le (decimal_after 0 digits) 2147483647 ≡ b → cond b (Some (decimal_after 0 digits)) None ≡ Some a → (a ≡ grammar.decimal digits) × (a ≤ 2147483647)
+    by true q e =
+        let same : a ≡ decimal_after 0 digits = cc in
+        let value = decimal-after 0 digits in
+        let small = leb-true (decimal_after 0 digits) 2147483647 q in
+        (omega (arith, same, value), omega (arith, same, small))
+    by false q e = cc
+
+known-number : (digits : Text) (a : ℕ) → a ≡ grammar.decimal digits → a ≤ 2147483647 → number_of digits ≡ Some a
+unfolding number_of
+known-number digits a value small =
+    let same : decimal_after 0 digits ≡ a = let all = decimal-after 0 digits in omega (arith, value, all) in
+    let within = le-leb (decimal_after 0 digits) 2147483647 (omega (arith, same, small)) in
+    ap (λ b. cond b (Some (decimal_after 0 digits)) None) within ∙ ap Some same
 
 module _ {n : ℕ} where
   pub agrees-count : Agrees (Unit {0}) n numbers.count grammar.count 1 (Head.number ∷ []) nothing
   unfolding numbers.count
   agrees-count = agrees-same there back (agrees-bind (agrees-one stands-number) (λ digits. agrees-required (number_of digits) nothing) refl)
     where
-      there : (ts : Tokens) (a : ℕ) (us : Tokens) → lines.◌>>=◌ (one digits_of) (λ digits. exactly (number_of digits)) ts a us → grammar.count ts a us
-      there ts a us (digits, middle, (t, e, v), (found, same)) = (t, subst (λ vs. ts ≡ t ∷ vs) (sym same) e, by t v)
-        where
-          by : (t : Token) → digits_of t ≡ Some digits → grammar.count_of t ≡ Some a
-          by (token.Word w) v = cc
-          by (token.Quoted q) v = cc
-          by (token.Sign s) v = cc
-          by (token.Number d) v = let written : d ≡ digits = cc in ap number_of written ∙ found
-          by (token.Text x) v = cc
-          by (token.Param d) v = cc
-          by (token.Backslash l) v = cc
+      there : (ts : Tokens) (a : ℕ) (us : Tokens) → lines.◌>>=◌ number (λ digits. exactly (number_of digits)) ts a us → grammar.count ts a us
+      there ts a us (digits, middle, spelt, (found, same)) = let known = number-known digits a found in (digits, subst (λ vs. number ts digits vs) (sym same) spelt, known.0, known.1)
 
-      back : (ts : Tokens) (a : ℕ) (us : Tokens) → grammar.count ts a us → lines.◌>>=◌ (one digits_of) (λ digits. exactly (number_of digits)) ts a us
-      back ts a us (t, e, v) = by t e v
-        where
-          by : (t : Token) → ts ≡ t ∷ us → grammar.count_of t ≡ Some a → lines.◌>>=◌ (one digits_of) (λ digits. exactly (number_of digits)) ts a us
-          by (token.Word w) e v = cc
-          by (token.Quoted q) e v = cc
-          by (token.Sign s) e v = cc
-          by (token.Number d) e v = (d, us, (token.Number d, e, refl), (v, refl))
-          by (token.Text x) e v = cc
-          by (token.Param d) e v = cc
-          by (token.Backslash l) e v = cc
+      back : (ts : Tokens) (a : ℕ) (us : Tokens) → grammar.count ts a us → lines.◌>>=◌ number (λ digits. exactly (number_of digits)) ts a us
+      back ts a us (digits, spelt, value, small) = (digits, us, spelt, (known-number digits a value small, refl))
 
   pub agrees-integer : Agrees (Unit {0}) n numbers.integer grammar.integer 1 numeral_heads nothing
   unfolding numbers.integer grammar.integer
-  agrees-integer = agrees-flag (agrees-test signed_count (omega arith) (tests-sign sign.Minus) (behind_sign true) (behind_sign false) refl)
+  agrees-integer = agrees-same there back (agrees-test signed_count (omega arith) (tests-sign sign.Minus) (behind_sign true) (behind_sign false) refl)
     where
       signed_count : Bool → Parser ℤ
       signed_count negative = numbers.count >>= (λ k. pure (signed negative k))
 
       behind_sign : (negative : Bool) → Agrees (Unit {0}) n (signed_count negative) (lines.◌>>=◌ grammar.count (λ k. gives (signed negative k))) 1 (Head.number ∷ []) nothing
       behind_sign negative = agrees-bind agrees-count (λ k. agrees-pure (signed negative k) nothing) refl
+
+      ordered : Line ℤ
+      ordered = lines.◌or◌ (lines.◌>>◌ (mark sign.Minus) (lines.◌>>=◌ grammar.count (λ k. gives (signed true k)))) (lines.◌>>=◌ grammar.count (λ k. gives (signed false k)))
+
+      there : (ts : Tokens) (a : ℤ) (us : Tokens) → ordered ts a us → grammar.integer ts a us
+      there ts a us (inl negative) = inr negative
+      there ts a us (inr positive) = inl positive
+
+      back : (ts : Tokens) (a : ℤ) (us : Tokens) → grammar.integer ts a us → ordered ts a us
+      back ts a us (inl positive) = inr positive
+      back ts a us (inr negative) = inl negative
 
 abbrev bar_integer : Barred
 bar_integer = record { words = []; signs = sign.Minus ∷ []; names = false; numbers = true; strings = false; params = false }
@@ -153,8 +174,8 @@ any-there : (a b : Bool) → b ≡ true → (a || b) ≡ true
 any-there true b e = refl
 any-there false b e = e
 
-stands-direction : Stands direction_of direction_heads bar_directions
-stands-direction = record { shows = shows; none = none }
+stands-direction : Stands direction_of (one direction_of) direction_heads bar_directions
+stands-direction = record { shows = shows; none = none; there = λ ts a us spelt. spelt; back = λ ts a us spelt. spelt }
   where
     shows-word : (a b c d e f g h i : Bool) (found : Direction)
         → cond a (Some direction.Next) (cond b (Some direction.Prior) (cond c (Some direction.First) (cond d (Some direction.Last) (cond e (Some direction.Absolute) (cond f (Some direction.Relative)
@@ -210,7 +231,40 @@ abbrev pub motion_heads : List Head
 motion_heads = numeral_heads ++ direction_heads ++ Head.others bar_motion ∷ []
 
 abbrev direction_or_next : Line Motion
-direction_or_next = lines.◌or◌ (lines.◌>>=◌ (one direction_of) directed) (lines.◌>>◌ (unless direction_of) (gives moves.Next))
+direction_or_next = lines.◌or◌ (lines.◌>>=◌ (one direction_of) directed) (lines.◌>>◌ (unless (one direction_of)) (gives moves.Next))
+
+-- a direction comes next
+seen-direction : (ts : Tokens) (us : Tokens) → grammar.direction ts tt us → (d : Direction) × one direction_of ts d us
+seen-direction ts us (inl e) = (direction.Next, (token.Word (codes "next"), e, refl))
+seen-direction ts us (inr (inl e)) = (direction.Prior, (token.Word (codes "prior"), e, refl))
+seen-direction ts us (inr (inr (inl e))) = (direction.First, (token.Word (codes "first"), e, refl))
+seen-direction ts us (inr (inr (inr (inl e)))) = (direction.Last, (token.Word (codes "last"), e, refl))
+seen-direction ts us (inr (inr (inr (inr (inl e))))) = (direction.Absolute, (token.Word (codes "absolute"), e, refl))
+seen-direction ts us (inr (inr (inr (inr (inr (inl e)))))) = (direction.Relative, (token.Word (codes "relative"), e, refl))
+seen-direction ts us (inr (inr (inr (inr (inr (inr (inl e))))))) = (direction.All, (token.Word (codes "all"), e, refl))
+seen-direction ts us (inr (inr (inr (inr (inr (inr (inr (inl e)))))))) = (direction.Forward, (token.Word (codes "forward"), e, refl))
+seen-direction ts us (inr (inr (inr (inr (inr (inr (inr (inr e)))))))) = (direction.Backward, (token.Word (codes "backward"), e, refl))
+
+spelt-direction : (ts : Tokens) (d : Direction) (us : Tokens) → one direction_of ts d us → grammar.direction ts tt us
+spelt-direction ts d us (t, e, v) = by t e v
+  where
+    is : (w v : Text) (found : Direction) → ts ≡ token.Word w ∷ us → (w ≡ v) × (d ≡ found) → ts ≡ token.Word v ∷ us
+    is w v found e same = e ∙ ap (λ x. token.Word x ∷ us) same.0
+
+    by : (t : Token) → ts ≡ t ∷ us → direction_of t ≡ Some d → grammar.direction ts tt us
+    by (token.Word w) e v = ⊎_elim (λ x. inl (is w (codes "next") direction.Next e x)) (λ v.
+        ⊎_elim (λ x. inr (inl (is w (codes "prior") direction.Prior e x))) (λ v.
+        ⊎_elim (λ x. inr (inr (inl (is w (codes "first") direction.First e x)))) (λ v.
+        ⊎_elim (λ x. inr (inr (inr (inl (is w (codes "last") direction.Last e x))))) (λ v.
+        ⊎_elim (λ x. inr (inr (inr (inr (inl (is w (codes "absolute") direction.Absolute e x)))))) (λ v.
+        ⊎_elim (λ x. inr (inr (inr (inr (inr (inl (is w (codes "relative") direction.Relative e x))))))) (λ v.
+        ⊎_elim (λ x. inr (inr (inr (inr (inr (inr (inl (is w (codes "all") direction.All e x)))))))) (λ v.
+        ⊎_elim (λ x. inr (inr (inr (inr (inr (inr (inr (inl (is w (codes "forward") direction.Forward e x))))))))) (λ v.
+        ⊎_elim (λ x. inr (inr (inr (inr (inr (inr (inr (inr (is w (codes "backward") direction.Backward e x))))))))) (λ v. cc)
+        (pick w (codes "backward") direction.Backward d _ v)) (pick w (codes "forward") direction.Forward d _ v)) (pick w (codes "all") direction.All d _ v)) (pick w (codes "relative") direction.Relative d _ v))
+        (pick w (codes "absolute") direction.Absolute d _ v)) (pick w (codes "last") direction.Last d _ v)) (pick w (codes "first") direction.First d _ v)) (pick w (codes "prior") direction.Prior d _ v))
+        (pick w (codes "next") direction.Next d _ v)
+    by t e v = cc
 
 -- the line in the order in which it is read
 abbrev ordered : Line Motion
@@ -219,7 +273,7 @@ ordered = lines.◌or◌ (lines.◌<$>◌ moves.Count grammar.integer) direction
 there : (ts : Tokens) (a : Motion) (us : Tokens) → ordered ts a us → grammar.optional_motion ts a us
 unfolding grammar.motion
 there ts a us (inl count) = inl (inr (inr (inr (inr (inr (inr (inl count)))))))
-there ts a us (inr (inr none)) = inr none
+there ts a us (inr (inr (x, middle, none, given))) = inr (tt, middle, (none.0, λ u vs spelt. let found = seen-direction ts vs spelt in none.1 found.0 vs found.1), given)
 there ts a us (inr (inl (d, middle, (t, e, v), rest))) = by t e v
   where
     at : (w v : Text) (found : Direction) → ts ≡ token.Word w ∷ middle → (w ≡ v) × (d ≡ found) → (lines.◌>>◌ (a_word v) (directed found)) ts a us
@@ -247,7 +301,7 @@ there ts a us (inr (inl (d, middle, (t, e, v), rest))) = by t e v
 
 back : (ts : Tokens) (a : Motion) (us : Tokens) → grammar.optional_motion ts a us → ordered ts a us
 unfolding grammar.motion
-back ts a us (inr none) = inr (inr none)
+back ts a us (inr (x, middle, none, given)) = inr (inr (tt, middle, (none.0, λ d vs spelt. none.1 tt vs (spelt-direction ts d vs spelt)), given))
 back ts a us (inl (inl (u, middle, e, rest))) = inr (inl (direction.Next, middle, (token.Word (codes "next"), e, refl), rest))
 back ts a us (inl (inr (inl (u, middle, e, rest)))) = inr (inl (direction.Prior, middle, (token.Word (codes "prior"), e, refl), rest))
 back ts a us (inl (inr (inr (inl (u, middle, e, rest))))) = inr (inl (direction.First, middle, (token.Word (codes "first"), e, refl), rest))
@@ -285,7 +339,7 @@ module _ {n : ℕ} where
   agrees-directed direction.Backward = agrees-anything (agrees-word (codes "all") (agrees-pure moves.BackwardAll bar_motion) (agrees-map moves.Backward agrees-optional_integer) refl)
 
   agrees-direction_or_next : Agrees (Unit {0}) n (taken direction_of >>= spec.directed_or_next) direction_or_next 0 (direction_heads ++ Head.others bar_motion ∷ []) bar_motion
-  agrees-direction_or_next = agrees-unless spec.directed_or_next stands-direction agrees-directed (agrees-pure moves.Next bar_motion)
+  agrees-direction_or_next = agrees-unless spec.directed_or_next (omega arith) stands-direction agrees-directed (agrees-pure moves.Next bar_motion)
 
   agrees-optional_motion : Agrees (Unit {0}) n spec.optional_motion grammar.optional_motion 0 motion_heads bar_motion
   unfolding spec.optional_motion numbers.optional_integer

@@ -4,7 +4,6 @@ use Rattle.sql_tokens.specs.declared.token.Sign.TheVariants as sign
 use Rattle.sql_expr.specs.Reading.{Text, Tokens}
 use Rattle.sql_expr.specs.Lines.{Line, gives, mark}
 use Rattle.sql_expr.specs.Lines as lines
-use Rattle.sql_expr.specs.Grammar as expression
 use Rattle.sql_reader_query.specs.Lists as spec_lists
 use Rattle.sql_reader_query.specs.Names as spec
 use Rattle.sql_reader.specs.NameGrammar as grammar
@@ -15,7 +14,7 @@ use Rattle.sql_expr.proofs.ExpressionAgreement.{agrees-name}
 
 -- the line in the order in which it is read
 abbrev pub factored : Line (Option Text × Text)
-factored = lines.◌>>=◌ expression.name (λ first. lines.◌or◌ (lines.◌>>◌ (mark sign.Dot) (lines.◌<$>◌ (λ second. (Some first, second)) expression.name)) (gives (None, first)))
+factored = lines.◌>>=◌ lines.name (λ first. lines.◌or◌ (lines.◌>>◌ (mark sign.Dot) (lines.◌<$>◌ (λ second. (Some first, second)) lines.name)) (gives (None, first)))
 
 there : (ts : Tokens) (q : Option Text × Text) (us : Tokens) → factored ts q us → grammar.qualified ts q us
 unfolding grammar.qualified
@@ -42,7 +41,7 @@ module _ {n : ℕ} where
   agrees-column = agrees-bind agrees-qualified (λ q. agrees-pure (record { item = q.0; name = q.1 }) (bar_sign sign.Dot)) refl
 
   -- in parentheses
-  pub agrees-enclosed_names : Agrees (Unit {0}) n spec.enclosed_names (lines.◌>>=◌ grammar.names (λ found. lines.◌>>◌ (mark sign.RightParen) (gives found))) 2 (Head.name ∷ []) nothing
+  pub agrees-enclosed_names : Agrees (Unit {0}) n spec.enclosed_names (lines.◌>>=◌ (lines.list lines.name) (λ found. lines.◌>>◌ (mark sign.RightParen) (gives found))) 2 (Head.name ∷ []) nothing
   unfolding spec.enclosed_names spec.names spec_lists.listed
   agrees-enclosed_names = agrees-bind (agrees-list (bar_sign sign.Comma) agrees-name refl refl) (λ found. agrees-bind (agrees-expect_sign sign.RightParen) (λ u. agrees-pure found nothing) refl) refl
 

@@ -6,11 +6,9 @@ use Rattle.std.proofs.lemmas.List.{append_assoc, append-nil}
 use Rattle.sql_tokens.specs.declared.token.Token.{Token}
 use Rattle.sql_tokens.specs.declared.token.Sign.{Sign}
 use Rattle.sql_expr.specs.Reading.{Text, Tokens, Outcome, Parser, and_then, ◌>>=◌, ◌<$>◌, pure, refuse, taken, behind, eat_word, goes_on, sees_word}
-use Rattle.sql_expr.specs.Lines.{Line, gives, many, maybe, word as a_word}
-use Rattle.sql_expr.proofs.Agreement.{one}
+use Rattle.sql_expr.specs.Lines.{Line, gives, many, maybe, any, word as a_word}
 use Rattle.sql_expr.specs.Lines as lines
 use Rattle.sql_reader_query.specs.Lists.{looking}
-use Rattle.sql_reader.specs.QueryGrammar.{any}
 use Rattle.sql_expr.proofs.Heads.{Barred, Head, clear, begins, all_avoid, begins-clear, clear-begins, begins-left, begins-right}
 use Rattle.sql_expr.proofs.Agreement.{Agrees, Stands, bind_some, bar_word, same_value, same_rest, same_read, read_then, agrees-pure, agrees-bind, agrees-same, agrees-wider, agrees-fewer, agrees-word, agrees-taken}
 
@@ -72,9 +70,9 @@ bind_pure : {A : Type 0} (o : Outcome A) → and_then o pure ≡ o
 bind_pure (Some p) = refl
 bind_pure None = refl
 
-pub agrees-given : {S : Type 0} {n : ℕ} {A : Type 0} {value_of : Token → Option A} {heads : List Head} {bar : Barred} (tail : Barred)
-    → Stands value_of heads bar → all_avoid bar (Head.others tail ∷ []) ≡ true
-    → Agrees S n (taken value_of) (maybe (one value_of)) 0 (heads ++ Head.others tail ∷ []) tail
+pub agrees-given : {S : Type 0} {n : ℕ} {A : Type 0} {value_of : Token → Option A} {T : Line A} {heads : List Head} {bar : Barred} (tail : Barred)
+    → Stands value_of T heads bar → all_avoid bar (Head.others tail ∷ []) ≡ true
+    → Agrees S n (taken value_of) (maybe T) 0 (heads ++ Head.others tail ∷ []) tail
 agrees-given {n = n} {value_of = value_of} tail stands apart = agrees-read (λ ts. bind_pure (taken value_of ts))
     (agrees-taken {n = n} pure (omega arith) stands (λ a. agrees-pure (Some a) tail) (agrees-pure None tail) apart)
 

@@ -35,7 +35,7 @@ use Rattle.sql_reader.proofs.OptionalAgreement.{also, agrees-given, agrees-looki
 
 -- the line in the order in which it is read
 abbrev factored : Line (Option Text)
-factored = lines.◌or◌ (lines.◌>>◌ (a_word (codes "as")) (lines.◌<$>◌ Some expression.name)) (maybe expression.name)
+factored = lines.◌or◌ (lines.◌>>◌ (a_word (codes "as")) (lines.◌<$>◌ Some lines.name)) (maybe lines.name)
 
 alias-there : (ts : Tokens) (o : Option Text) (us : Tokens) → factored ts o us → grammar.alias ts o us
 unfolding grammar.alias
@@ -45,8 +45,8 @@ alias-there ts o us (inr (inr none)) = inr none
 
 alias-back : (ts : Tokens) (o : Option Text) (us : Tokens) → grammar.alias ts o us → factored ts o us
 unfolding grammar.alias
-alias-back ts o us (inl (a, rest, (b, middle, inl (u, behind_word, word, same), front), given)) = inl (u, behind_word, word, (a, rest, subst (λ vs. expression.name vs a rest) same.1 front, given))
-alias-back ts o us (inl (a, rest, (b, middle, inr same, front), given)) = inr (inl (a, rest, subst (λ vs. expression.name vs a rest) same.1 front, given))
+alias-back ts o us (inl (a, rest, (b, middle, inl (u, behind_word, word, same), front), given)) = inl (u, behind_word, word, (a, rest, subst (λ vs. lines.name vs a rest) same.1 front, given))
+alias-back ts o us (inl (a, rest, (b, middle, inr same, front), given)) = inr (inl (a, rest, subst (λ vs. lines.name vs a rest) same.1 front, given))
 alias-back ts o us (inr none) = inr (inr none)
 
 module _ {n : ℕ} where
@@ -171,13 +171,14 @@ all-of-seen (t ∷ ts) e =
     record { first = t; item = item.0; rest = drop 1 (drop 1 ts); named = item.1; same = ap (λ vs. t ∷ vs) (dot ∙ ap (λ vs. token.Sign sign.Dot ∷ vs) star) }
 
 abbrev all_of_line : Line OutputItem
-all_of_line = lines.◌>>=◌ expression.name (λ item. lines.◌>>◌ (mark sign.Dot) (lines.◌>>◌ (mark sign.Star) (gives (output_item.AllOf item))))
+all_of_line = lines.◌>>=◌ lines.name (λ item. lines.◌>>◌ (mark sign.Dot) (lines.◌>>◌ (mark sign.Star) (gives (output_item.AllOf item))))
 
 sees-all-of : (ts : Tokens) (o : OutputItem) (us : Tokens) → all_of_line ts o us → spec.sees_all_of ts ≡ true
 unfolding spec.sees_all_of sees_name sees_sign
-sees-all-of ts o us (item, behind_name, (t, first, named), (u, behind_dot, dot, (v, behind_star, star, given))) =
-    let same : ts ≡ t ∷ token.Sign sign.Dot ∷ token.Sign sign.Star ∷ behind_star = first ∙ ap (λ vs. t ∷ vs) (dot ∙ ap (λ vs. token.Sign sign.Dot ∷ vs) star) in
-    ap spec.sees_all_of same ∙ ap (λ found. is_some found && true && true) named
+sees-all-of ts o us (item, behind_name, spelt, (u, behind_dot, dot, (v, behind_star, star, given))) =
+    let found = stands-name.back ts item behind_name spelt in
+    let same : ts ≡ found.0 ∷ token.Sign sign.Dot ∷ token.Sign sign.Star ∷ behind_star = found.1 ∙ ap (λ vs. found.0 ∷ vs) (dot ∙ ap (λ vs. token.Sign sign.Dot ∷ vs) star) in
+    ap spec.sees_all_of same ∙ ap (λ o. is_some o && true && true) found.2
 
 -- behind an output
 abbrev pub output_tail : Barred

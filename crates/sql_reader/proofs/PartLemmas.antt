@@ -14,7 +14,7 @@ use Rattle.sql_expr.specs.Reading.{Text}
 use Rattle.sql_reader_catalog.specs.declared.columns.Part.{Part}
 use Rattle.sql_reader_catalog.specs.declared.columns.Part.TheVariants as variant
 use Rattle.sql_reader_catalog.specs.Columns.{repeats, with_part, bare, is_said}
-use Rattle.sql_reader.specs.CatalogGrammar.{same_kind, none_twice, nullability_of, default_of, keys_of, defined}
+use Rattle.sql_reader.specs.CatalogGrammar.{same_kind, none_twice, nullability_of, default_of, keys_of}
 use Rattle.sql_reader.specs.CatalogGrammar as grammar
 
 -- the part that the reading function makes of it
@@ -99,6 +99,9 @@ pub fitting-bare : (name type_name : Text) (parts : List grammar.Part) → fitti
 fitting-bare name type_name parts = fitting-none (bare name type_name) parts ∙ ap (λ b. b && none_twice parts) (none-bare name type_name parts)
 
 -- ---- what they define
+
+abbrev pub defined : Text → Text → List grammar.Part → ColumnDef
+defined name type_name parts = record { name = name; type_name = type_name; nullability = nullability_of parts; default = default_of parts; keys = keys_of parts }
 
 abbrev or_said : Nullability → Nullability → Nullability
 or_said nullability.Unsaid later = later

@@ -1,42 +1,34 @@
 -- PREPARE, EXECUTE, EXPLAIN, DEALLOCATE and DISCARD are read exactly where they are spelt.
 use Rattle.std.proofs.Common.{◌≡◌, inl, inr, ℕ, Bool, true, false, cond, ◌||◌, List, [], ◌∷◌, drop, codes, refl, ap, subst, ◌∙◌, arith}
-use Rattle.std.specs.Prelude.{is_some}
-use Rattle.std.specs.Str.{bytes_eq}
 use Rattle.sql_tokens.specs.declared.token.Token.TheVariants as token
 use Rattle.sql_tokens.specs.declared.token.Sign.TheVariants as sign
 use Rattle.sql_tree.specs.declared.command.Command.{Command}
 use Rattle.sql_tree.specs.declared.command.Command.TheVariants as command
 use Rattle.sql_expr.specs.Reading.{Tokens, Parser, ◌>>=◌, ◌<$>◌, pure, refuse, eat_word, sees_word}
-use Rattle.sql_expr.specs.Lines.{Line, nowhere, gives, word as a_word}
-use Rattle.sql_expr.proofs.Agreement.{one}
+use Rattle.sql_expr.specs.Lines.{Line, nowhere, gives, any, word as a_word}
 use Rattle.sql_expr.specs.Lines as lines
-use Rattle.sql_expr.specs.Names.{name_of, sees_name}
+use Rattle.sql_expr.specs.Names.{sees_name}
 use Rattle.sql_expr.specs.Reserved.{is_reserved}
 use Rattle.sql_expr.specs.Names as names
-use Rattle.sql_expr.specs.Grammar as expression_grammar
 use Rattle.sql_reader_query.specs.Names.{optional_names}
 use Rattle.sql_reader_session.specs.Prepared as spec
 use Rattle.sql_reader.specs.ChangeGrammar.{statement}
 use Rattle.sql_reader.specs.NameGrammar as name_grammar
 use Rattle.sql_reader.specs.PreparedGrammar as grammar
-use Rattle.sql_reader.specs.QueryGrammar.{any}
-use Rattle.sql_expr.proofs.Heads.{Barred, Head, clear, begins, begins-clear, clear-begins}
-use Rattle.sql_expr.proofs.Agreement.{Agrees, nothing, bar_word, bar_sign, sees-no-word, tests-word, agrees-pure, agrees-refuse, agrees-bind, agrees-same, agrees-wider, agrees-test, agrees-word, agrees-sign, agrees-expect_word, agrees-expect_sign}
+use Rattle.sql_reader.specs.PreparedGrammar.{deallocated as target}
+use Rattle.sql_expr.proofs.Heads.{Barred, Head, and-left, and-right}
+use Rattle.sql_expr.proofs.Agreement.{Agrees, nothing, bar_sign, word-seen, sees-word, tests-word, agrees-pure, agrees-refuse, agrees-bind, agrees-same, agrees-wider, agrees-test, agrees-word, agrees-sign, agrees-expect_word, agrees-expect_sign}
 use Rattle.sql_expr.proofs.ListAgreement.{agrees-list}
 use Rattle.sql_expr.proofs.ExpressionAgreement.{list_tail, agrees-name, agrees-expression}
-use Rattle.sql_expr.proofs.TokenKinds.{bar_names}
 use Rattle.sql_reader.proofs.NameAgreement.{agrees-enclosed_names}
 use Rattle.sql_reader.proofs.StatementAgreement.{statement_tail, agrees-statement}
-use Rattle.sql_reader.proofs.KeywordAgreement.{agrees-map, agrees-bracket, sees_before, neither, no-name, agrees-keyword}
+use Rattle.sql_reader.proofs.KeywordAgreement.{agrees-map, sees_before, both-true, Looks, agrees-before, name-there, name-sees}
 
 -- ---- DEALLOCATE
 
 -- what stands behind [PREPARE]
 abbrev target_read : Parser Command
 target_read = eat_word (codes "all") >>= (λ all. cond all (pure command.DeallocateAll) (command.Deallocate <$> names.name))
-
-abbrev target : Line Command
-target = lines.◌or◌ (lines.◌>>◌ (a_word (codes "all")) (gives command.DeallocateAll)) (lines.◌<$>◌ command.Deallocate expression_grammar.name)
 
 abbrev target_heads : List Head
 target_heads = Head.word (codes "all") ∷ Head.name ∷ []
@@ -47,39 +39,32 @@ bar_targets = record { words = codes "all" ∷ []; signs = []; names = true; num
 abbrev follows : Tokens → Bool
 follows us = sees_name us || sees_word (codes "all") us
 
-follows-target : (us : Tokens) → begins target_heads us ≡ true → follows us ≡ true
-unfolding sees_name sees_word
-follows-target [] e = cc
-follows-target (token.Word w ∷ us) e = by (bytes_eq w (codes "all")) (is_some (name_of (token.Word w))) e
+or-left : (a b : Bool) → a ≡ true → (a || b) ≡ true
+or-left true b e = refl
+or-left false b e = cc
+
+or-right : (a b : Bool) → b ≡ true → (a || b) ≡ true
+or-right true b e = refl
+or-right false b e = e
+
+-- ALL or a name comes next
+target-there : (us : Tokens) → follows us ≡ true → (c : Command) × (vs : Tokens) × target us c vs
+target-there us e = by (sees_word (codes "all") us) refl (sees_name us) refl e
   where
-    by : (a b : Bool) → (a || (b || false)) ≡ true → (b || a) ≡ true
-    by true true e = refl
-    by true false e = refl
-    by false true e = refl
-    by false false e = cc
-follows-target (token.Quoted q ∷ us) e = refl
-follows-target (token.Sign s ∷ us) e = cc
-follows-target (token.Number d ∷ us) e = cc
-follows-target (token.Text x ∷ us) e = cc
-follows-target (token.Param d ∷ us) e = cc
-follows-target (token.Backslash l ∷ us) e = cc
+    by : (all : Bool) → sees_word (codes "all") us ≡ all → (named : Bool) → sees_name us ≡ named → (named || all) ≡ true → (c : Command) × (vs : Tokens) × target us c vs
+    by true q named r e = (command.DeallocateAll, drop 1 us, inl (tt, drop 1 us, word-seen (codes "all") us q, (refl, refl)))
+    by false q true r e = let found = name-there us r in (command.Deallocate found.0, drop 1 us, inr (found.0, drop 1 us, found.1, (refl, refl)))
+    by false q false r e = cc
 
-no-target : (us : Tokens) → clear bar_targets us ≡ true → follows us ≡ false
-no-target us c = by (sees_name us) (sees_word (codes "all") us) (no-name us (begins-clear bar_names (Head.others bar_targets ∷ []) us refl free)) (sees-no-word (codes "all") us (begins-clear (bar_word (codes "all")) (Head.others bar_targets ∷ []) us refl free))
+looks-target : Looks (sees_before (codes "prepare") follows) (codes "prepare") target
+looks-target = record {
+  yes = λ ts e. (word-seen (codes "prepare") ts (and-left (sees_word (codes "prepare") ts) (follows (drop 1 ts)) e), target-there (drop 1 ts) (and-right (sees_word (codes "prepare") ts) (follows (drop 1 ts)) e));
+  sure = λ us c vs spelt. both-true (sees_word (codes "prepare") (token.Word (codes "prepare") ∷ us)) (follows us) (sees-word (codes "prepare") us) (sure us c vs spelt);
+}
   where
-    free : begins (Head.others bar_targets ∷ []) us ≡ true
-    free = clear-begins bar_targets us c
-
-    by : (a b : Bool) → a ≡ false → b ≡ false → (a || b) ≡ false
-    by true b e k = cc
-    by false b e k = k
-
--- PREPARE is the name where neither another name nor ALL follows
-no-prepare : (ts : Tokens) (c : Command) (us : Tokens) → target ts c us → clear bar_targets us ≡ true → sees_before (codes "prepare") follows ts ≡ false
-unfolding sees_word
-no-prepare ts c us (inl (u, middle, e, same)) ends = ap (sees_before (codes "prepare") follows) e
-no-prepare ts c us (inr (name, middle, (t, e, v), same)) ends =
-    neither _ _ (ap (λ vs. follows (drop 1 vs)) e ∙ no-target middle (subst (λ vs. clear bar_targets vs ≡ true) same.1 ends))
+    sure : (us : Tokens) (c : Command) (vs : Tokens) → target us c vs → follows us ≡ true
+    sure us c vs (inl (u, middle, here, same)) = or-right (sees_name us) (sees_word (codes "all") us) (ap (sees_word (codes "all")) here ∙ sees-word (codes "all") middle)
+    sure us c vs (inr (n, middle, spelt, same)) = or-left (sees_name us) (sees_word (codes "all") us) (name-sees us n middle spelt)
 
 abbrev pub explain_heads : List Head
 explain_heads = Head.word (codes "execute") ∷ Head.word (codes "select") ∷ Head.word (codes "insert") ∷ Head.word (codes "update") ∷ Head.word (codes "delete") ∷ []
@@ -91,7 +76,7 @@ module _ {n : ℕ} where
 
   pub agrees-deallocate : Agrees (Unit {0}) n spec.deallocate grammar.deallocate 1 (Head.word (codes "prepare") ∷ target_heads) bar_targets
   unfolding spec.deallocate grammar.deallocate
-  agrees-deallocate = agrees-bracket (agrees-keyword (codes "prepare") follows (λ found. target_read) follows-target no-prepare agrees-target agrees-target)
+  agrees-deallocate = agrees-before "prepare" looks-target agrees-target
 
   pub agrees-discard : Agrees (Unit {0}) n spec.discard grammar.discard 1 (Head.word (codes "plans") ∷ Head.word (codes "temp") ∷ Head.word (codes "temporary") ∷ []) nothing
   unfolding spec.discard grammar.discard

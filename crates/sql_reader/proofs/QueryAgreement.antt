@@ -95,7 +95,7 @@ module _ {n : ℕ} where
   agrees-key = agrees-bind agrees-expression (λ expr. agrees-bind agrees-descending (λ falls. agrees-bind (agrees-nulls_first falls)
       (λ first. agrees-pure (record { expr = expr; descending = falls; nulls_first = first }) key_tail) refl) refl) refl
 
-  agrees-order : Agrees (Unit {0}) n spec.order (grammar.any (lines.◌>>◌ (a_word (codes "order")) (lines.◌>>◌ (a_word (codes "by")) (list grammar.key)))) 0 (Head.word (codes "order") ∷ Head.others order_tail ∷ []) order_tail
+  agrees-order : Agrees (Unit {0}) n spec.order (lines.any (lines.◌>>◌ (a_word (codes "order")) (lines.◌>>◌ (a_word (codes "by")) (list grammar.key)))) 0 (Head.word (codes "order") ∷ Head.others order_tail ∷ []) order_tail
   unfolding spec.order spec_lists.listed is_reserved
   agrees-order = agrees-any (codes "order") order_tail (agrees-bind (agrees-expect_word (codes "by")) (λ u. agrees-list order_tail agrees-key refl refl) refl) refl refl
 

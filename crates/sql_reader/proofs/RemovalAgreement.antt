@@ -20,7 +20,7 @@ use Rattle.sql_expr.proofs.Heads.{Barred, Head, clear, begins-clear, clear-begin
 use Rattle.sql_expr.proofs.Agreement.{Agrees, nothing, bar_sign, tests-word, agrees-pure, agrees-refuse, agrees-bind, agrees-same, agrees-fewer, agrees-test, agrees-word}
 use Rattle.sql_expr.proofs.ExpressionAgreement.{agrees-name}
 use Rattle.sql_expr.proofs.TokenKinds.{stands-name, bar_names}
-use Rattle.sql_reader.proofs.KeywordAgreement.{agrees-flag}
+use Rattle.sql_reader.proofs.KeywordAgreement.{name-sees, agrees-flag}
 use Rattle.sql_reader.proofs.NameAgreement.{agrees-relation}
 use Rattle.sql_reader.proofs.OptionalAgreement.{agrees-looking}
 
@@ -102,8 +102,8 @@ analyze_tail = record bar_names { signs = sign.Dot ∷ [] }
 
 seen : (ts : Tokens) (c : Command) (us : Tokens) → (lines.◌<$>◌ (λ table. command.Analyze (Some table)) names.relation) ts c us → sees_name ts ≡ true
 unfolding names.relation names.qualified sees_name
-seen ts c us (table, last, (q, end, inl (first, middle, (t, same, value), dotted), given), rest) = ap sees_name same ∙ ap is_some value
-seen ts c us (table, last, (q, end, inr (first, middle, (t, same, value), alone), given), rest) = ap sees_name same ∙ ap is_some value
+seen ts c us (table, last, (q, end, inl (first, middle, spelt, dotted), given), rest) = name-sees ts first middle spelt
+seen ts c us (table, last, (q, end, inr (first, middle, spelt, alone), given), rest) = name-sees ts first middle spelt
 
 unseen : (ts : Tokens) → clear analyze_tail ts ≡ true → sees_name ts ≡ false
 unfolding sees_name

@@ -12,25 +12,22 @@ use Rattle.sql_tokens.specs.declared.token.Sign.TheVariants as sign
 use Rattle.sql_tree.specs.declared.command.Command.{Command}
 use Rattle.sql_tree.specs.declared.command.Command.TheVariants as command
 use Rattle.sql_expr.specs.Reading.{Text, Tokens, Parser, ◌>>=◌, pure, sees_word}
-use Rattle.sql_expr.specs.Lines.{Line, gives, word as a_word, mark}
+use Rattle.sql_expr.specs.Lines.{Line, gives, ahead, unless, name, word as a_word, mark}
 use Rattle.sql_expr.proofs.Agreement.{one}
 use Rattle.sql_expr.specs.Lines as lines
-use Rattle.sql_expr.specs.Names.{name_of, sees_name}
 use Rattle.sql_expr.specs.Reserved.{is_reserved}
 use Rattle.sql_expr.specs.Names as names
-use Rattle.sql_expr.specs.Grammar as expression
 use Rattle.sql_reader_session.specs.Keywords.{eat_before_name}
 use Rattle.sql_reader_session.specs.Settings.{text_of, is_setting_word}
 use Rattle.sql_reader_session.specs.Settings as spec
 use Rattle.sql_reader.specs.BlockGrammar as grammar
 use Rattle.sql_reader.specs.QueryGrammar.{numeral}
-use Rattle.sql_expr.proofs.Heads.{Barred, Head, bars, is, clear, begins-clear}
+use Rattle.sql_expr.proofs.Heads.{Barred, Head, bars, is}
 use Rattle.sql_expr.proofs.Agreement.{Agrees, Stands, nothing, bar_sign, agrees-pure, agrees-bind, agrees-same, agrees-word, agrees-taken, agrees-expect_sign}
 use Rattle.sql_expr.proofs.ListAgreement.{agrees-list}
 use Rattle.sql_expr.proofs.ExpressionAgreement.{agrees-name}
-use Rattle.sql_expr.proofs.TokenKinds.{bar_names}
 use Rattle.sql_reader.proofs.LimitsAgreement.{agrees-numeral}
-use Rattle.sql_reader.proofs.KeywordAgreement.{sees_before, agrees-keyword, name-seen, no-keyword}
+use Rattle.sql_reader.proofs.KeywordAgreement.{agrees-keyword, looks-name}
 
 -- the tokens that stand for the text of a setting
 abbrev pub text_heads : List Head
@@ -39,8 +36,44 @@ text_heads = Head.word (codes "on") ∷ Head.word (codes "true") ∷ Head.word (
 abbrev pub bar_texts : Barred
 bar_texts = record { words = codes "on" ∷ codes "true" ∷ codes "false" ∷ []; signs = []; names = true; numbers = false; strings = true; params = false }
 
-stands-text : Stands text_of text_heads bar_texts
-stands-text = record { shows = shows; none = none }
+abbrev pub numeral_heads : List Head
+numeral_heads = Head.sign sign.Minus ∷ Head.number ∷ []
+
+-- the line of the texts, by the token that stands for one
+text-there : (ts : Tokens) (a : Text) (us : Tokens) → one text_of ts a us → grammar.setting_text ts a us
+text-there ts a us (t, e, v) = by t e v
+  where
+    by-word : (w : Text) (on truth falsity reserved : Bool) → bytes_eq w (codes "on") ≡ on → bytes_eq w (codes "true") ≡ truth → bytes_eq w (codes "false") ≡ falsity → is_reserved w ≡ reserved
+        → ts ≡ token.Word w ∷ us → cond (on || truth || falsity || not reserved) (Some w) None ≡ Some a → grammar.setting_text ts a us
+    by-word w true truth falsity reserved o t f r e v = let same = (bytes_eq-Decides w (codes "on")).0 o in let value : a ≡ w = cc in inr (inr (inl (tt, us, subst (λ x. ts ≡ token.Word x ∷ us) same e, (value ∙ same, refl))))
+    by-word w false true falsity reserved o t f r e v = let same = (bytes_eq-Decides w (codes "true")).0 t in let value : a ≡ w = cc in inr (inr (inr (inl (tt, us, subst (λ x. ts ≡ token.Word x ∷ us) same e, (value ∙ same, refl)))))
+    by-word w false false true reserved o t f r e v = let same = (bytes_eq-Decides w (codes "false")).0 f in let value : a ≡ w = cc in inr (inr (inr (inr (tt, us, subst (λ x. ts ≡ token.Word x ∷ us) same e, (value ∙ same, refl)))))
+    by-word w false false false true o t f r e v = cc
+    by-word w false false false false o t f r e v = let is : w ≡ a = cc in inl (inl (e ∙ ap (λ x. token.Word x ∷ us) is, subst (λ x. is_reserved x ≡ false) is r))
+
+    by : (t : Token) → ts ≡ t ∷ us → text_of t ≡ Some a → grammar.setting_text ts a us
+    by (token.Word w) e v = by-word w (bytes_eq w (codes "on")) (bytes_eq w (codes "true")) (bytes_eq w (codes "false")) (is_reserved w) refl refl refl refl e v
+    by (token.Quoted q) e v = let is : q ≡ a = cc in inl (inr (e ∙ ap (λ x. token.Quoted x ∷ us) is))
+    by (token.Text x) e v = let is : x ≡ a = cc in inr (inl (e ∙ ap (λ y. token.Text y ∷ us) is))
+    by t e v = cc
+
+text-back : (ts : Tokens) (a : Text) (us : Tokens) → grammar.setting_text ts a us → one text_of ts a us
+text-back ts a us (inl (inl (e, r))) = (token.Word a, e, free (bytes_eq a (codes "on")) (bytes_eq a (codes "true")) (bytes_eq a (codes "false")) (is_reserved a) r)
+  where
+    free : (on truth falsity reserved : Bool) → reserved ≡ false → cond {A = Option Text} (on || truth || falsity || not reserved) (Some a) None ≡ Some a
+    free on truth falsity true q = cc
+    free true truth falsity false q = refl
+    free false true falsity false q = refl
+    free false false true false q = refl
+    free false false false false q = refl
+text-back ts a us (inl (inr e)) = (token.Quoted a, e, refl)
+text-back ts a us (inr (inl e)) = (token.Text a, e, refl)
+text-back ts a us (inr (inr (inl (u, middle, e, same)))) = (token.Word (codes "on"), subst (λ vs. ts ≡ token.Word (codes "on") ∷ vs) (sym same.1) e, ap Some (sym same.0))
+text-back ts a us (inr (inr (inr (inl (u, middle, e, same))))) = (token.Word (codes "true"), subst (λ vs. ts ≡ token.Word (codes "true") ∷ vs) (sym same.1) e, ap Some (sym same.0))
+text-back ts a us (inr (inr (inr (inr (u, middle, e, same))))) = (token.Word (codes "false"), subst (λ vs. ts ≡ token.Word (codes "false") ∷ vs) (sym same.1) e, ap Some (sym same.0))
+
+stands-text : Stands text_of grammar.setting_text text_heads bar_texts
+stands-text = record { shows = shows; none = none; there = text-there; back = text-back }
   where
     shows-word : (on truth falsity reserved : Bool) (w a : Text) → cond (on || truth || falsity || not reserved) (Some w) None ≡ Some a
         → (on || (truth || (falsity || (is_some (cond reserved None (Some w)) || (false || false))))) ≡ true
@@ -76,65 +109,6 @@ stands-text = record { shows = shows; none = none }
     none (token.Param d) b = refl
     none (token.Backslash l) b = refl
 
-abbrev pub numeral_heads : List Head
-numeral_heads = Head.sign sign.Minus ∷ Head.number ∷ []
-
--- the line of the texts, by the token that stands for one
-text-there : (ts : Tokens) (a : Text) (us : Tokens) → one text_of ts a us → grammar.setting_text ts a us
-text-there ts a us (t, e, v) = by t e v
-  where
-    by-word : (w : Text) (on truth falsity reserved : Bool) → bytes_eq w (codes "on") ≡ on → bytes_eq w (codes "true") ≡ truth → bytes_eq w (codes "false") ≡ falsity → is_reserved w ≡ reserved
-        → ts ≡ token.Word w ∷ us → cond (on || truth || falsity || not reserved) (Some w) None ≡ Some a → grammar.setting_text ts a us
-    by-word w true truth falsity reserved o t f r e v = let same = (bytes_eq-Decides w (codes "on")).0 o in let value : a ≡ w = cc in inr (inr (inl (tt, us, subst (λ x. ts ≡ token.Word x ∷ us) same e, (value ∙ same, refl))))
-    by-word w false true falsity reserved o t f r e v = let same = (bytes_eq-Decides w (codes "true")).0 t in let value : a ≡ w = cc in inr (inr (inr (inl (tt, us, subst (λ x. ts ≡ token.Word x ∷ us) same e, (value ∙ same, refl)))))
-    by-word w false false true reserved o t f r e v = let same = (bytes_eq-Decides w (codes "false")).0 f in let value : a ≡ w = cc in inr (inr (inr (inr (tt, us, subst (λ x. ts ≡ token.Word x ∷ us) same e, (value ∙ same, refl)))))
-    by-word w false false false true o t f r e v = cc
-    by-word w false false false false o t f r e v = inl (token.Word w, e, ap (λ x. cond {A = Option Text} x None (Some w)) r ∙ v)
-
-    by : (t : Token) → ts ≡ t ∷ us → text_of t ≡ Some a → grammar.setting_text ts a us
-    by (token.Word w) e v = by-word w (bytes_eq w (codes "on")) (bytes_eq w (codes "true")) (bytes_eq w (codes "false")) (is_reserved w) refl refl refl refl e v
-    by (token.Quoted q) e v = inl (token.Quoted q, e, v)
-    by (token.Sign s) e v = cc
-    by (token.Number d) e v = cc
-    by (token.Text x) e v = inr (inl (token.Text x, e, v))
-    by (token.Param d) e v = cc
-    by (token.Backslash l) e v = cc
-
-text-back : (ts : Tokens) (a : Text) (us : Tokens) → grammar.setting_text ts a us → one text_of ts a us
-text-back ts a us (inl (t, e, v)) = (t, e, by t v)
-  where
-    free : (on truth falsity reserved : Bool) (w : Text) → cond reserved None (Some w) ≡ Some a → cond (on || truth || falsity || not reserved) (Some w) None ≡ Some a
-    free true truth falsity true w v = cc
-    free false true falsity true w v = cc
-    free false false true true w v = cc
-    free false false false true w v = cc
-    free true truth falsity false w v = v
-    free false true falsity false w v = v
-    free false false true false w v = v
-    free false false false false w v = v
-
-    by : (t : Token) → name_of t ≡ Some a → text_of t ≡ Some a
-    by (token.Word w) v = free (bytes_eq w (codes "on")) (bytes_eq w (codes "true")) (bytes_eq w (codes "false")) (is_reserved w) w v
-    by (token.Quoted q) v = v
-    by (token.Sign s) v = cc
-    by (token.Number d) v = cc
-    by (token.Text x) v = cc
-    by (token.Param d) v = cc
-    by (token.Backslash l) v = cc
-text-back ts a us (inr (inl (t, e, v))) = (t, e, by t v)
-  where
-    by : (t : Token) → grammar.string_of t ≡ Some a → text_of t ≡ Some a
-    by (token.Word w) v = cc
-    by (token.Quoted q) v = cc
-    by (token.Sign s) v = cc
-    by (token.Number d) v = cc
-    by (token.Text x) v = v
-    by (token.Param d) v = cc
-    by (token.Backslash l) v = cc
-text-back ts a us (inr (inr (inl (u, middle, e, same)))) = (token.Word (codes "on"), subst (λ vs. ts ≡ token.Word (codes "on") ∷ vs) (sym same.1) e, ap Some (sym same.0))
-text-back ts a us (inr (inr (inr (inl (u, middle, e, same))))) = (token.Word (codes "true"), subst (λ vs. ts ≡ token.Word (codes "true") ∷ vs) (sym same.1) e, ap Some (sym same.0))
-text-back ts a us (inr (inr (inr (inr (u, middle, e, same))))) = (token.Word (codes "false"), subst (λ vs. ts ≡ token.Word (codes "false") ∷ vs) (sym same.1) e, ap Some (sym same.0))
-
 -- what stands behind the scope of SET, and behind the name
 abbrev valued_read : Bool → Text → Parser Command
 valued_read local n = spec.expect_to >>= (λ u. spec.set_value >>= (λ v. pure (command.Set (record { name = n; local = local; value = v }))))
@@ -146,7 +120,7 @@ abbrev scoped_read : Bool → Parser Command
 scoped_read local = names.name >>= valued_read local
 
 abbrev scoped : Bool → Line Command
-scoped local = lines.◌>>=◌ expression.name (valued local)
+scoped local = lines.◌>>=◌ name (valued local)
 
 abbrev value_heads : List Head
 value_heads = Head.word (codes "to") ∷ Head.sign sign.Equal ∷ []
@@ -154,15 +128,7 @@ value_heads = Head.word (codes "to") ∷ Head.sign sign.Equal ∷ []
 module _ {n : ℕ} where
   agrees-setting : Agrees (Unit {0}) n spec.setting grammar.setting 1 (text_heads ++ numeral_heads) nothing
   unfolding spec.setting grammar.setting
-  agrees-setting = agrees-same there back (agrees-taken {n = n} spec.text_or_number (omega arith) stands-text (λ text. agrees-pure (record { text = text; number = false }) nothing) (agrees-bind agrees-numeral (λ found. agrees-pure (spec.number_setting found) nothing) refl) refl)
-    where
-      there : (ts : Tokens) (a : Setting) (us : Tokens) → (lines.◌or◌ (lines.◌<$>◌ (λ text. record { text = text; number = false }) (one text_of)) (lines.◌<$>◌ spec.number_setting numeral)) ts a us → grammar.setting ts a us
-      there ts a us (inl (text, middle, front, same)) = inl (text, middle, text-there ts text middle front, same)
-      there ts a us (inr number) = inr number
-
-      back : (ts : Tokens) (a : Setting) (us : Tokens) → grammar.setting ts a us → (lines.◌or◌ (lines.◌<$>◌ (λ text. record { text = text; number = false }) (one text_of)) (lines.◌<$>◌ spec.number_setting numeral)) ts a us
-      back ts a us (inl (text, middle, front, same)) = inl (text, middle, text-back ts text middle front, same)
-      back ts a us (inr number) = inr number
+  agrees-setting = agrees-taken {n = n} spec.text_or_number (omega arith) stands-text (λ text. agrees-pure (record { text = text; number = false }) nothing) (agrees-bind agrees-numeral (λ found. agrees-pure (spec.number_setting found) nothing) refl) refl
 
   agrees-set_value : Agrees (Unit {0}) n spec.set_value grammar.set_value 1 (Head.word (codes "default") ∷ text_heads ++ numeral_heads) (bar_sign sign.Comma)
   unfolding spec.set_value spec.settings is_reserved
@@ -186,34 +152,46 @@ module _ {n : ℕ} where
   agrees-scoped : (local : Bool) → Agrees (Unit {0}) n (scoped_read local) (scoped local) 3 (Head.name ∷ []) (bar_sign sign.Comma)
   agrees-scoped local = agrees-bind agrees-name (agrees-valued local) refl
 
--- LOCAL and SESSION are the name where no other one follows
-unscoped : (w : Text) (local : Bool) (ts : Tokens) (c : Command) (us : Tokens) → scoped local ts c us → clear (bar_sign sign.Comma) us ≡ true → sees_before w sees_name ts ≡ false
-unfolding is_reserved
-unscoped w local ts c us (name, middle, front, rest) ends =
-    no-keyword w ts name middle front (begins-clear bar_names value_heads middle refl ((agrees-valued {n = 0} local name).starts middle c us rest ends))
+-- the line in the order in which it is read
+abbrev session_or_not : Line Command
+session_or_not = lines.◌or◌ (lines.◌>>◌ (a_word (codes "session")) (lines.◌>>◌ (ahead name) (scoped false))) (lines.◌>>◌ (unless (lines.◌>>◌ (a_word (codes "session")) name)) (scoped false))
+
+abbrev ordered : Line Command
+ordered = lines.◌or◌ (lines.◌>>◌ (a_word (codes "local")) (lines.◌>>◌ (ahead name) (scoped true))) (lines.◌>>◌ (unless (lines.◌>>◌ (a_word (codes "local")) name)) session_or_not)
+
+set-there : (ts : Tokens) (c : Command) (us : Tokens) → ordered ts c us → grammar.set ts c us
+unfolding grammar.set
+set-there ts c us (inl (u, middle, here, (v, start, front, rest))) = (true, start, inr (inl (u, middle, here, (v, start, front, (refl, refl)))), rest)
+set-there ts c us (inr (x, first, none, inl (u, middle, here, (v, start, front, rest)))) = (false, start, inl (u, middle, sym none.0 ∙ here, (v, start, front, (refl, refl))), rest)
+set-there ts c us (inr (x, first, none, inr (y, second, neither, rest))) =
+    (false, second, inr (inr (tt, second, (neither.0 ∙ none.0, both), (refl, refl))), rest)
+  where
+    both : (a : Text) (vs : Tokens) → ¬ (lines.◌>>◌ (lines.◌or◌ (a_word (codes "session")) (a_word (codes "local"))) name) ts a vs
+    both a vs (u, middle, inl session, named) = neither.1 a vs (u, middle, none.0 ∙ session, named)
+    both a vs (u, middle, inr local, named) = none.1 a vs (u, middle, local, named)
+
+moved : (local wanted : Bool) (middle start : Tokens) (c : Command) (us : Tokens) → (local ≡ wanted) × (middle ≡ start) → scoped local middle c us → scoped wanted start c us
+moved local wanted middle start c us same rest = subst (λ l. scoped l start c us) same.0 (subst (λ vs. scoped local vs c us) same.1 rest)
+
+-- SESSION is not LOCAL
+not-local : (ts middle : Tokens) → ts ≡ token.Word (codes "session") ∷ middle → (a : Text) (vs : Tokens) → ¬ (lines.◌>>◌ (a_word (codes "local")) name) ts a vs
+unfolding sees_word
+not-local ts middle here a vs (u, last, local, named) = let clash : true ≡ false = ap (sees_word (codes "local")) (sym local ∙ here) in cc
+
+set-back : (ts : Tokens) (c : Command) (us : Tokens) → grammar.set ts c us → ordered ts c us
+unfolding grammar.set
+set-back ts c us (local, middle, inl (u, start, here, (v, last, front, same)), rest) =
+    inr (tt, ts, (refl, not-local ts start here), inl (u, start, here, (v, last, front, moved local false middle last c us same rest)))
+set-back ts c us (local, middle, inr (inl (u, start, here, (v, last, front, same))), rest) = inl (u, start, here, (v, last, front, moved local true middle last c us same rest))
+set-back ts c us (local, middle, inr (inr (v, start, none, same)), rest) =
+    inr (tt, ts, (refl, λ a vs spelt. none.1 a vs (spelt.0, spelt.1, inr spelt.2, spelt.3)), inr (tt, ts, (refl, λ a vs spelt. none.1 a vs (spelt.0, spelt.1, inl spelt.2, spelt.3)),
+    moved local false middle ts c us (same.0, same.1 ∙ none.0) rest))
 
 module _ {n : ℕ} where
   pub agrees-set : Agrees (Unit {0}) n spec.set grammar.set 3 (Head.word (codes "local") ∷ Head.word (codes "session") ∷ Head.name ∷ []) (bar_sign sign.Comma)
-  unfolding spec.set grammar.set spec.scope sees_word
-  agrees-set = agrees-same there back (agrees-keyword (codes "local") sees_name (λ found. cond found (pure true) (eat_before_name (codes "session") >>= (λ u. pure false)) >>= scoped_read) name-seen none (agrees-scoped true)
-      (agrees-keyword (codes "session") sees_name (λ found. scoped_read false) name-seen (unscoped (codes "session") false) (agrees-scoped false) (agrees-scoped false)))
-    where
-      none : (ts : Tokens) (c : Command) (us : Tokens) → (lines.◌or◌ (lines.◌>>◌ (a_word (codes "session")) (scoped false)) (scoped false)) ts c us → clear (bar_sign sign.Comma) us ≡ true → sees_before (codes "local") sees_name ts ≡ false
-      none ts c us (inl (u, middle, front, rest)) ends = ap (sees_before (codes "local") sees_name) front
-      none ts c us (inr rest) ends = unscoped (codes "local") false ts c us rest ends
-
-      there : (ts : Tokens) (c : Command) (us : Tokens) → (lines.◌or◌ (lines.◌>>◌ (a_word (codes "local")) (scoped true)) (lines.◌or◌ (lines.◌>>◌ (a_word (codes "session")) (scoped false)) (scoped false))) ts c us → grammar.set ts c us
-      there ts c us (inl (u, middle, front, rest)) = (true, middle, inr (inl (u, middle, front, (refl, refl))), rest)
-      there ts c us (inr (inl (u, middle, front, rest))) = (false, middle, inl (u, middle, front, (refl, refl)), rest)
-      there ts c us (inr (inr rest)) = (false, ts, inr (inr (refl, refl)), rest)
-
-      moved : (local wanted : Bool) (middle start : Tokens) (c : Command) (us : Tokens) → (local ≡ wanted) × (middle ≡ start) → scoped local middle c us → scoped wanted start c us
-      moved local wanted middle start c us same rest = subst (λ l. scoped l start c us) same.0 (subst (λ vs. scoped local vs c us) same.1 rest)
-
-      back : (ts : Tokens) (c : Command) (us : Tokens) → grammar.set ts c us → (lines.◌or◌ (lines.◌>>◌ (a_word (codes "local")) (scoped true)) (lines.◌or◌ (lines.◌>>◌ (a_word (codes "session")) (scoped false)) (scoped false))) ts c us
-      back ts c us (local, middle, inl (u, start, front, same), rest) = inr (inl (u, start, front, moved local false middle start c us same rest))
-      back ts c us (local, middle, inr (inl (u, start, front, same)), rest) = inl (u, start, front, moved local true middle start c us same rest)
-      back ts c us (local, middle, inr (inr same), rest) = inr (inr (moved local false middle ts c us same rest))
+  unfolding spec.set spec.scope
+  agrees-set = agrees-same set-there set-back (agrees-keyword (codes "local") (λ found. cond found (pure true) (eat_before_name (codes "session") >>= (λ u. pure false)) >>= scoped_read) (looks-name (codes "local")) (agrees-scoped true)
+      (agrees-keyword (codes "session") (λ found. scoped_read false) (looks-name (codes "session")) (agrees-scoped false) (agrees-scoped false)))
 
   pub agrees-reset : Agrees (Unit {0}) n spec.reset grammar.reset 1 (Head.name ∷ []) nothing
   unfolding spec.reset grammar.reset

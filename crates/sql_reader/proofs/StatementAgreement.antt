@@ -25,7 +25,7 @@ use Rattle.sql_expr.proofs.Agreement.{Agrees, same_rest, word-seen, agrees-pure,
 use Rattle.sql_expr.proofs.ExpressionAgreement.{agrees-expression, operators}
 use Rattle.sql_reader.proofs.OptionalAgreement.{also, agrees-read, agrees-looking}
 use Rattle.sql_reader.proofs.QueryAgreement.{select_tail, agrees-selection}
-use Rattle.sql_reader.proofs.ChangeAgreement.{where_tail, returning_tail, agrees-returning, agrees-insertion, agrees-change, agrees-searched, agrees-positioned}
+use Rattle.sql_reader.proofs.ChangeAgreement.{changed_line, changed-there, changed-back, where_tail, returning_tail, agrees-returning, agrees-insertion, agrees-change, agrees-searched, agrees-positioned}
 
 -- ---- a column named current, and WHERE CURRENT OF
 
@@ -48,7 +48,7 @@ position-seen ts e =
     let third = word-seen (codes "of") (drop 1 (drop 1 ts)) (and-right (sees_word (codes "where") ts && sees_word (codes "current") (drop 1 ts)) (sees_word (codes "of") (drop 1 (drop 1 ts))) e) in
     record { rest = drop 1 (drop 1 (drop 1 ts)); same = first ∙ ap (λ vs. token.Word (codes "where") ∷ vs) (second ∙ ap (λ vs. token.Word (codes "current") ∷ vs) third) }
 
-sees-position : (c : Change) (ts : Tokens) (b : Command) (us : Tokens) → (lines.◌<$>◌ command.Positioned (grammar.positioned c)) ts b us → spec_changes.sees_position ts ≡ true
+sees-position : (c : Change) (ts : Tokens) (b : Command) (us : Tokens) → (lines.◌<$>◌ command.Positioned (grammar.positioned (spec_changes.statement_of c))) ts b us → spec_changes.sees_position ts ≡ true
 unfolding spec_changes.sees_position grammar.positioned sees_word
 sees-position c ts b us (p, end, (u, behind_where, where_word, (v, behind_current, current, (x, behind_of, of, named))), given) =
     let same : ts ≡ token.Word (codes "where") ∷ token.Word (codes "current") ∷ token.Word (codes "of") ∷ behind_of
@@ -88,20 +88,22 @@ same-by-word {B = B} f other further some none ts = by (sees_word (codes "select
 
 -- ---- statement
 
-abbrev changed_line : Line Statement
-changed_line = lines.◌>>=◌ grammar.changed (λ c. grammar.searched c)
+abbrev searched_line : Line Statement
+searched_line = lines.◌>>=◌ changed_line (λ c. grammar.searched (spec_changes.statement_of c))
 
-statement-there : (ts : Tokens) (s : Statement) (us : Tokens) → by_word_line (λ s. s) changed_line ts s us → grammar.statement ts s us
+statement-there : (ts : Tokens) (s : Statement) (us : Tokens) → by_word_line (λ s. s) searched_line ts s us → grammar.statement ts s us
 unfolding grammar.statement query.select
 statement-there ts s us (inl (u, middle, select, (q, end, spelt, given))) = inl (q, end, (u, middle, select, spelt), given)
 statement-there ts s us (inr (inl (u, middle, insert, (i, end, spelt, given)))) = inr (inl (i, end, (u, middle, insert, spelt), given))
-statement-there ts s us (inr (inr changed)) = inr (inr changed)
+statement-there ts s us (inr (inr (c, middle, changed, rest))) = inr (inr (spec_changes.statement_of c, middle, changed-there ts c middle changed, rest))
 
-statement-back : (ts : Tokens) (s : Statement) (us : Tokens) → grammar.statement ts s us → by_word_line (λ s. s) changed_line ts s us
+statement-back : (ts : Tokens) (s : Statement) (us : Tokens) → grammar.statement ts s us → by_word_line (λ s. s) searched_line ts s us
 unfolding grammar.statement query.select
 statement-back ts s us (inl (q, end, (u, middle, select, spelt), given)) = inl (u, middle, select, (q, end, spelt, given))
 statement-back ts s us (inr (inl (i, end, (u, middle, insert, spelt), given))) = inr (inl (u, middle, insert, (i, end, spelt, given)))
-statement-back ts s us (inr (inr changed)) = inr (inr changed)
+statement-back ts s us (inr (inr (f, middle, changed, rest))) =
+    let read = changed-back ts f middle changed in
+    inr (inr (read.0, middle, read.2, subst (λ g. grammar.searched g middle s us) read.1 rest))
 
 -- ---- statement_command
 
@@ -112,23 +114,27 @@ changing c = do
   cond found (command.Positioned <$> spec_changes.positioned c) (command.Statement <$> spec_changes.searched c)
 
 abbrev changing_line : Change → Line Command
-changing_line c = lines.◌or◌ (lines.◌<$>◌ command.Positioned (grammar.positioned c)) (lines.◌<$>◌ command.Statement (grammar.searched c))
+changing_line c = lines.◌or◌ (lines.◌<$>◌ command.Positioned (grammar.positioned (spec_changes.statement_of c))) (lines.◌<$>◌ command.Statement (grammar.searched (spec_changes.statement_of c)))
 
-command-there : (ts : Tokens) (b : Command) (us : Tokens) → by_word_line command.Statement (lines.◌>>=◌ grammar.changed changing_line) ts b us → grammar.statement_command ts b us
+command-there : (ts : Tokens) (b : Command) (us : Tokens) → by_word_line command.Statement (lines.◌>>=◌ changed_line changing_line) ts b us → grammar.statement_command ts b us
 unfolding grammar.statement_command grammar.statement query.select
 command-there ts b us (inl (u, middle, select, (q, end, spelt, given))) = inl (Select q, end, inl (q, end, (u, middle, select, spelt), (refl, refl)), given)
 command-there ts b us (inr (inl (u, middle, insert, (i, end, spelt, given)))) = inl (Insert i, end, inr (inl (i, end, (u, middle, insert, spelt), (refl, refl))), given)
-command-there ts b us (inr (inr (c, middle, changed, inl (p, end, spelt, given)))) = inr (p, end, (c, middle, changed, spelt), given)
-command-there ts b us (inr (inr (c, middle, changed, inr (s, end, spelt, given)))) = inl (s, end, inr (inr (c, middle, changed, spelt)), given)
+command-there ts b us (inr (inr (c, middle, changed, inl (p, end, spelt, given)))) = inr (p, end, (spec_changes.statement_of c, middle, changed-there ts c middle changed, spelt), given)
+command-there ts b us (inr (inr (c, middle, changed, inr (s, end, spelt, given)))) = inl (s, end, inr (inr (spec_changes.statement_of c, middle, changed-there ts c middle changed, spelt)), given)
 
-command-back : (ts : Tokens) (b : Command) (us : Tokens) → grammar.statement_command ts b us → by_word_line command.Statement (lines.◌>>=◌ grammar.changed changing_line) ts b us
+command-back : (ts : Tokens) (b : Command) (us : Tokens) → grammar.statement_command ts b us → by_word_line command.Statement (lines.◌>>=◌ changed_line changing_line) ts b us
 unfolding grammar.statement_command grammar.statement query.select
 command-back ts b us (inl (s, end, inl (q, rest, (u, middle, select, spelt), same), given)) =
     inl (u, middle, select, (q, rest, spelt, (given.0 ∙ ap command.Statement same.0, given.1 ∙ same.1)))
 command-back ts b us (inl (s, end, inr (inl (i, rest, (u, middle, insert, spelt), same)), given)) =
     inr (inl (u, middle, insert, (i, rest, spelt, (given.0 ∙ ap command.Statement same.0, given.1 ∙ same.1))))
-command-back ts b us (inl (s, end, inr (inr (c, middle, changed, spelt)), given)) = inr (inr (c, middle, changed, inr (s, end, spelt, given)))
-command-back ts b us (inr (p, end, (c, middle, changed, spelt), given)) = inr (inr (c, middle, changed, inl (p, end, spelt, given)))
+command-back ts b us (inl (s, end, inr (inr (f, middle, changed, spelt)), given)) =
+    let read = changed-back ts f middle changed in
+    inr (inr (read.0, middle, read.2, inr (s, end, subst (λ g. grammar.searched g middle s end) read.1 spelt, given)))
+command-back ts b us (inr (p, end, (f, middle, changed, spelt), given)) =
+    let read = changed-back ts f middle changed in
+    inr (inr (read.0, middle, read.2, inl (p, end, subst (λ g. grammar.positioned g middle p end) read.1 spelt, given)))
 
 -- behind a statement, also where it ends sooner
 abbrev pub statement_tail : Barred
@@ -147,7 +153,7 @@ agrees-statement = agrees-read (same-by-word (λ s. s) (spec_changes.change >>= 
     (agrees-wider statement_tail refl (agrees-fewer 1 (omega arith) (agrees-bind agrees-change (λ c. agrees-searched c) refl)))))
 
 -- WHERE CURRENT OF is never a condition
-searched-apart : (c : Change) (ts : Tokens) (b : Command) (us : Tokens) → (lines.◌<$>◌ command.Statement (grammar.searched c)) ts b us → clear returning_tail us ≡ true → spec_changes.sees_position ts ≡ false
+searched-apart : (c : Change) (ts : Tokens) (b : Command) (us : Tokens) → (lines.◌<$>◌ command.Statement (grammar.searched (spec_changes.statement_of c))) ts b us → clear returning_tail us ≡ true → spec_changes.sees_position ts ≡ false
 unfolding grammar.searched is_reserved
 searched-apart c ts b us (s, end, (filter, middle, conditioned, (given, last, returned, made)), same) clear_so = by (spec_changes.sees_position ts) refl conditioned
   where

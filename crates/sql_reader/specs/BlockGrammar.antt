@@ -7,7 +7,7 @@ use Rattle.sql_tree.specs.declared.command.Command.{Command}
 use Rattle.sql_tree.specs.declared.command.Command.TheVariants as command
 use Rattle.sql_tree.specs.declared.expr.Numeral.{Numeral}
 use Rattle.sql_expr.specs.Texts.{Text}
-use Rattle.sql_expr.specs.Lines.{Line, ◌>>=◌, ◌>>◌, ◌<$>◌, ◌or◌, gives, name, string, key, mark, ahead, unless, before, maybe, list}
+use Rattle.sql_expr.specs.Lines.{Line, ◌>>=◌, ◌>>◌, ◌<$>◌, ◌or◌, gives, name, string, word, key, mark, ahead, unless, before, maybe, list}
 use Rattle.sql_reader.specs.QueryGrammar.{numeral}
 
 -- [WORK | TRANSACTION]
