@@ -7,7 +7,7 @@ use Rattle.q_base.specs.declared.errors.SqlError.{SqlError}
 use Rattle.q_base.specs.declared.settings.Mode.{Mode}
 use Rattle.q_base.specs.declared.settings.Mode.TheVariants as mode
 use Rattle.q_base.specs.declared.settings.Switches.{Switches}
-use Rattle.sql_expr.specs.Reserved.{is_reserved}
+use Rattle.sql_expr.specs.Names.{is_reserved}
 use Rattle.savepoints.specs.declared.given.Name.{Name}
 use Rattle.savepoints.specs.declared.given.Name.TheVariants as names
 use Rattle.savepoints.specs.declared.given.Switch.{Switch}

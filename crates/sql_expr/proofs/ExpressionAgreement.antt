@@ -9,7 +9,7 @@ use Rattle.sql_tree.specs.declared.expr.Expr.TheVariants as e
 use Rattle.sql_expr.specs.declared.grammar.Level.{Level}
 use Rattle.sql_expr.specs.declared.grammar.Level.TheVariants.{Whole, Negated, Signed}
 use Rattle.sql_expr.specs.Reading.{Text, Tokens, Parser, ◌>>=◌, pure, refuse, taken, taken_first, eat_word, goes_on}
-use Rattle.sql_expr.specs.Reserved.{is_reserved}
+use Rattle.sql_expr.specs.Names.{is_reserved}
 use Rattle.sql_expr.specs.Names as names
 use Rattle.sql_expr.specs.Expressions as spec
 use Rattle.sql_expr.specs.Lines.{Line, nowhere, gives, unless, word as a_word, mark, name, number, parameter}

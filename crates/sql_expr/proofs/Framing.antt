@@ -36,10 +36,12 @@ frames-gives : {A : Type 0} (a : A) → Frames (gives a)
 frames-gives a = record { at = λ ts b us spelt. record { front = []; joined = sym spelt.1; anywhere = λ vs. (spelt.0, refl) } }
 
 frames-name : Frames name
-frames-name = record { at = λ ts n us spelt. ⊎_elim
-    (λ bare. record { front = token.Word n ∷ []; joined = bare.0; anywhere = λ vs. inl (refl, bare.1) })
-    (λ quoted. record { front = token.Quoted n ∷ []; joined = quoted; anywhere = λ vs. inr refl })
-    spelt }
+frames-name = record {
+  at = λ ts n us spelt. ⊎_elim
+      (λ bare. record { front = token.Word n ∷ []; joined = bare.0; anywhere = λ vs. inl (refl, bare.1) })
+      (λ quoted. record { front = token.Quoted n ∷ []; joined = quoted; anywhere = λ vs. inr refl })
+      spelt;
+}
 
 frames-number : Frames number
 frames-number = record { at = λ ts digits us spelt. record { front = token.Number digits ∷ []; joined = spelt; anywhere = λ vs. refl } }

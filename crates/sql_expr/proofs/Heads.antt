@@ -10,8 +10,7 @@ use Rattle.sql_tokens.specs.declared.token.Token.TheVariants as token
 use Rattle.sql_tokens.specs.declared.token.Sign.{Sign}
 use Rattle.sql_tokens.specs.contracts.token.Sign.{the_type}
 use Rattle.sql_expr.specs.Reading.{Text, Tokens, same_sign}
-use Rattle.sql_expr.specs.Names.{name_of}
-use Rattle.sql_expr.specs.Reserved.{is_reserved}
+use Rattle.sql_expr.specs.Names.{is_reserved, name_of}
 
 -- tokens that must not come next
 pub record Barred : Type 0 where

@@ -1,9 +1,10 @@
 -- The tokens that stand for something by themselves, which tokens those are, and the lines that spell them.
-use Rattle.std.proofs.Common.{◌≡◌, ◌⊎◌, inl, inr, Bool, true, false, cond, not, ◌||◌, List, [], ◌∷◌, Option, Some, None, codes, refl, sym, ap, subst, ◌∙◌}
-use Rattle.std.specs.Prelude.{is_some}
+use Rattle.std.proofs.Common.{◌≡◌, ◌≢◌, ◌⊎◌, inl, inr, Bool, true, false, cond, not, ◌||◌, List, [], ◌∷◌, Option, Some, None, codes, refl, sym, ap, subst, ◌∙◌}
+use Rattle.std.specs.Prelude.{is_some, All}
 use Rattle.std.specs.List.{list_any}
 use Rattle.std.specs.Str.{bytes_eq}
 use Rattle.std.proofs.lemmas.Slice.Eq.{bytes_eq-Decides}
+use Rattle.std.proofs.lemmas.List.Elements.{All-nil, All-cons, All-head, All-tail}
 use Rattle.sql_tokens.specs.declared.token.Token.{Token}
 use Rattle.sql_tokens.specs.declared.token.Token.TheVariants as token
 use Rattle.sql_tokens.specs.declared.token.Sign.{Sign}
@@ -17,9 +18,8 @@ use Rattle.sql_tree.specs.declared.expr.Expr.TheVariants as e
 use Rattle.sql_expr.specs.Reading.{Text, Tokens}
 use Rattle.sql_expr.specs.Literals.{digits_of, literal_of, constant_of, constant_of_literal}
 use Rattle.sql_expr.specs.Operators.{comparison_of, additive_of, multiplicative_of}
-use Rattle.sql_expr.specs.Names.{name_of}
-use Rattle.sql_expr.specs.Reserved.{is_reserved}
-use Rattle.sql_expr.specs.Lines.{Line, gives, mark, word as a_word, name, number, parameter}
+use Rattle.sql_expr.specs.Names.{is_reserved, name_of}
+use Rattle.sql_expr.specs.Lines.{reserved_words, Line, gives, mark, word as a_word, name, number, parameter}
 use Rattle.sql_expr.specs.Lines as lines
 use Rattle.sql_expr.specs.Grammar as grammar
 use Rattle.sql_expr.proofs.Heads.{Barred, Head, bars, is}
@@ -44,6 +44,37 @@ gives-word w value a ts us known (u, middle, same, (v, end)) = (token.Word w, sa
 
 -- ---- names and numbers
 
+none-left : (a b : Bool) → (a || b) ≡ false → a ≡ true → ⊥
+none-left true b e f = cc
+none-left false b e f = cc
+
+none-right : (a b : Bool) → (a || b) ≡ false → b ≡ false
+none-right true b e = cc
+none-right false b e = e
+
+abbrev differs : Text → Text → Type 0
+differs n reserved = reserved ≢ n
+
+free-none : (words : List Text) (n : Text) → list_any (λ reserved. bytes_eq reserved n) words ≡ false → All (differs n) words
+free-none [] n e = All-nil (differs n)
+free-none (w ∷ words) n e = All-cons (differs n) w words (λ same. none-left (bytes_eq w n) _ e ((bytes_eq-Decides w n).1 same)) (free-none words n (none-right (bytes_eq w n) _ e))
+
+none-free : (words : List Text) (n : Text) → All (differs n) words → list_any (λ reserved. bytes_eq reserved n) words ≡ false
+none-free [] n all = refl
+none-free (w ∷ words) n all = by (bytes_eq w n) refl (none-free words n (All-tail (differs n) w words all))
+  where
+    by : (b : Bool) → bytes_eq w n ≡ b → list_any (λ reserved. bytes_eq reserved n) words ≡ false → (bytes_eq w n || list_any (λ reserved. bytes_eq reserved n) words) ≡ false
+    by true q rest = absurd (All-head (differs n) w words all ((bytes_eq-Decides w n).0 q))
+    by false q rest = ap (λ b. b || list_any (λ reserved. bytes_eq reserved n) words) q ∙ rest
+
+pub free-word : (n : Text) → is_reserved n ≡ false → All (λ reserved. reserved ≢ n) reserved_words
+unfolding is_reserved
+free-word n e = free-none reserved_words n e
+
+pub word-free : (n : Text) → All (λ reserved. reserved ≢ n) reserved_words → is_reserved n ≡ false
+unfolding is_reserved
+word-free n all = none-free reserved_words n all
+
 abbrev pub bar_names : Barred
 bar_names = record { words = []; signs = []; names = true; numbers = false; strings = false; params = false }
 
@@ -66,7 +97,7 @@ stands-name = record {
 
     there-word : (w a : Text) (ts us : Tokens) (r : Bool) → is_reserved w ≡ r → ts ≡ token.Word w ∷ us → cond r None (Some w) ≡ Some a → name ts a us
     there-word w a ts us true q same v = cc
-    there-word w a ts us false q same v = let is : w ≡ a = cc in inl (same ∙ ap (λ x. token.Word x ∷ us) is, subst (λ x. is_reserved x ≡ false) is q)
+    there-word w a ts us false q same v = let is : w ≡ a = cc in inl (same ∙ ap (λ x. token.Word x ∷ us) is, free-word a (subst (λ x. is_reserved x ≡ false) is q))
 
     there : (ts : Tokens) (a : Text) (us : Tokens) (t : Token) → ts ≡ t ∷ us → name_of t ≡ Some a → name ts a us
     there ts a us (token.Word w) same v = there-word w a ts us (is_reserved w) refl same v
@@ -74,7 +105,7 @@ stands-name = record {
     there ts a us t same v = cc
 
     back : (ts : Tokens) (a : Text) (us : Tokens) → name ts a us → one name_of ts a us
-    back ts a us (inl (same, free_word)) = (token.Word a, same, ap (λ r. cond r None (Some a)) free_word)
+    back ts a us (inl (same, free_word)) = (token.Word a, same, ap (λ r. cond r None (Some a)) (word-free a free_word))
     back ts a us (inr same) = (token.Quoted a, same, refl)
 
 abbrev bar_numbers : Barred

@@ -7,15 +7,12 @@ use Rattle.sql_tree.specs.declared.expr.Comparison.TheVariants.{Equal, NotEqual,
 use Rattle.sql_tree.specs.declared.expr.Expr.TheVariants as e
 use Rattle.sql_tree.specs.declared.expr.Literal.TheVariants as literal_of
 use Rattle.sql_expr.specs.declared.grammar.Level.{Level, TheVariants.Whole, TheVariants.Negated, TheVariants.Signed}
-use Rattle.sql_expr.specs.Texts.{Tokens}
-use Rattle.sql_expr.specs.Lines.{Line, ◌>>=◌, ◌>>◌, ◌<$>◌, ◌or◌, key, mark, name, number, string, parameter, nowhere, gives, unless, said, many, separated, list, parenthesized}
+use Rattle.sql_expr.specs.Lines.{Tokens, Line, ◌>>=◌, ◌>>◌, ◌<$>◌, ◌or◌, key, mark, name, number, string, parameter, nowhere, gives, unless, said, many, separated, list, parenthesized}
 
--- number | string | NULL | TRUE | FALSE
 abbrev pub literal : Line Literal
 literal = (λ digits. literal_of.Number (record { negative = false; digits = digits })) <$> number or literal_of.Text <$> string
     or key "null" >> gives literal_of.Null or key "true" >> gives (literal_of.Bool true) or key "false" >> gives (literal_of.Bool false)
 
--- name ["." name]
 unfoldable pub column : Line Expr
 column = (do item ← name; mark sign.Dot; second ← name; gives (e.Column (record { item = Some item; name = second })))
     or (λ only. e.Column (record { item = None; name = only })) <$> name
@@ -44,7 +41,6 @@ abbrev pub grouped : Expr → List (Arithmetic × Expr) → Expr
 grouped left [] = left
 grouped left (next ∷ more) = grouped (e.Arithmetic next.0 left next.1) more
 
--- operand {operator operand}
 abbrev pub chain : Line Arithmetic → Line Expr → Line Expr
 chain operator operand = do
   first ← operand
@@ -53,7 +49,6 @@ chain operator operand = do
 
 -- ---- the lines over the expressions that are nested in them
 module _ (nested : Level → Line Expr) where
-  -- name "(" ("*" | disjunction) ")"
   abbrev pub call : Line Expr
   call = do
     function ← name

@@ -8,5 +8,3 @@ pub mod Load
 pub mod Names
 pub mod Operators
 pub mod Reading
-pub mod Reserved
-pub mod Texts

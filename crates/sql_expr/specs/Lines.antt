@@ -1,11 +1,16 @@
 -- What the lines of a grammar are made of. A line says of tokens what they spell, and which tokens stand behind that.
-use Rattle.std.specs.Prelude.{◌≡◌, ◌⊎◌, Bool, true, false, List, [], ◌∷◌, Option, Some, None, codes}
+use Rattle.std.specs.Prelude.{◌≡◌, ◌≢◌, ◌⊎◌, ℕ, Bool, true, false, List, [], ◌∷◌, All, Option, Some, None, codes}
 use Prim.Native.String.{String}
+use Rattle.sql_tokens.specs.declared.token.Token.{Token}
 use Rattle.sql_tokens.specs.declared.token.Token.TheVariants as token
 use Rattle.sql_tokens.specs.declared.token.Sign.{Sign}
 use Rattle.sql_tokens.specs.declared.token.Sign.TheVariants as sign
-use Rattle.sql_expr.specs.Reserved.{is_reserved}
-use Rattle.sql_expr.specs.Texts.{Text, Tokens}
+
+abbrev pub Text : Type 0
+Text = List ℕ
+
+abbrev pub Tokens : Type 0
+Tokens = List Token
 
 abbrev pub Line : Type 0 → Type 1
 Line A = Tokens → A → Tokens → Type 0
@@ -22,9 +27,17 @@ key w = word (codes w)
 abbrev pub mark : Sign → Line (Unit {0})
 mark s ts u us = ts ≡ token.Sign s ∷ us
 
+abbrev pub reserved_words : List Text
+reserved_words =
+    codes "all" ∷ codes "and" ∷ codes "as" ∷ codes "asc" ∷ codes "between" ∷ codes "by" ∷ codes "create" ∷ codes "cross" ∷
+    codes "default" ∷ codes "desc" ∷ codes "distinct" ∷ codes "false" ∷ codes "for" ∷ codes "from" ∷ codes "group" ∷ codes "having" ∷
+    codes "in" ∷ codes "inner" ∷ codes "into" ∷ codes "is" ∷ codes "join" ∷ codes "limit" ∷ codes "not" ∷ codes "null" ∷
+    codes "offset" ∷ codes "on" ∷ codes "or" ∷ codes "order" ∷ codes "primary" ∷ codes "returning" ∷ codes "select" ∷ codes "set" ∷
+    codes "table" ∷ codes "to" ∷ codes "true" ∷ codes "union" ∷ codes "unique" ∷ codes "values" ∷ codes "where" ∷ codes "with" ∷ []
+
 -- a word that isn't reserved, or a quoted identifier
 abbrev pub name : Line Text
-name ts n us = ((ts ≡ token.Word n ∷ us) × (is_reserved n ≡ false)) ⊎ (ts ≡ token.Quoted n ∷ us)
+name ts n us = ((ts ≡ token.Word n ∷ us) × All (λ reserved. reserved ≢ n) reserved_words) ⊎ (ts ≡ token.Quoted n ∷ us)
 
 abbrev pub number : Line Text
 number ts digits us = ts ≡ token.Number digits ∷ us

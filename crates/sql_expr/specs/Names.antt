@@ -1,9 +1,15 @@
 -- Names as they are read: words that aren't reserved, and quoted identifiers.
 use Rattle.std.specs.Prelude.{Bool, false, is_some, [], ◌∷◌, Option, Some, None, if◌then◌else◌}
+use Rattle.std.specs.List.{list_any}
+use Rattle.std.specs.Str.{bytes_eq}
 use Rattle.sql_tokens.specs.declared.token.Token.{Token}
 use Rattle.sql_tokens.specs.declared.token.Token.TheVariants as token
 use Rattle.sql_expr.specs.Reading.{Text, Tokens, Parser, ◌>>=◌, taken, required}
-use Rattle.sql_expr.specs.Reserved.{is_reserved}
+use Rattle.sql_expr.specs.Lines.{reserved_words}
+
+-- the word is a name only between quotes
+unfoldable pub is_reserved : Text → Bool
+is_reserved word = list_any (λ reserved. bytes_eq reserved word) reserved_words
 
 -- the name that a token is
 abbrev pub name_of : Token → Option Text

@@ -9,7 +9,7 @@ use Rattle.sql_tokens.specs.declared.token.Token.{Token}
 use Rattle.sql_tokens.specs.declared.token.Token.TheVariants as token
 use Rattle.sql_tokens.specs.declared.token.Sign.{Sign}
 use Rattle.sql_tokens.specs.contracts.token.Sign.{the_type}
-unfoldable pub use Rattle.sql_expr.specs.Texts.{Text, Tokens}
+unfoldable pub use Rattle.sql_expr.specs.Lines.{Text, Tokens}
 
 -- what was read, and the tokens behind it; nothing where the tokens don't begin so
 abbrev pub Outcome : Type 0 → Type 0

@@ -2,7 +2,6 @@ ghost use Rattle.std.specs.Prelude.{◌≡◌, Some};
 ghost use Rattle.std.specs.Option.{option_copied};
 ghost use Rattle.sql_expr.specs.Names as spec;
 ghost use Rattle.sql_expr.specs.Reading.{Reads};
-ghost use Rattle.sql_expr.specs.Reserved.{is_reserved as word_is_reserved};
 
 use crate::Cursor;
 use q_base::{Code, Stop, Str, Table, refusal};
@@ -56,7 +55,7 @@ const RESERVED: [(&str, ()); 40] = [
 /// Whether a word is a name only between quotes. PostgreSQL reserves more words (its manual, "SQL Key
 /// Words"); this list is this project's own.
 pub fn is_reserved(word: &str) -> bool
-    ensures { result ≡ word_is_reserved word.now }
+    ensures { result ≡ spec.is_reserved word.now }
 {
     let table: Table<'_, &str, (), 40> = Table::new(&RESERVED);
     table.find(&word).is_some()

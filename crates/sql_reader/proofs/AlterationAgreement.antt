@@ -7,7 +7,7 @@ use Rattle.sql_tree.specs.declared.command.Command.TheVariants as command
 use Rattle.sql_expr.specs.Reading.{Text, Tokens}
 use Rattle.sql_expr.specs.Lines.{Line, gives, name, word as a_word}
 use Rattle.sql_expr.specs.Lines as lines
-use Rattle.sql_expr.specs.Reserved.{is_reserved}
+use Rattle.sql_expr.specs.Names.{is_reserved}
 use Rattle.sql_reader_catalog.specs.Alteration as spec
 use Rattle.sql_reader.specs.CatalogGrammar as grammar
 use Rattle.sql_expr.proofs.Heads.{Head}

@@ -44,16 +44,16 @@ module _ {n : ℕ} where
   unfolding spec.abort grammar.abort
   agrees-abort = agrees-either (codes "work") (codes "transaction") refl refl (agrees-pure command.Rollback work_words)
 
-  pub agrees-savepoint : Agrees (Unit {0}) n spec.savepoint grammar.savepoint 1 (Head.name ∷ []) nothing
-  unfolding spec.savepoint grammar.savepoint
+  pub agrees-savepoint : Agrees (Unit {0}) n spec.savepoint (lines.◌<$>◌ command.Savepoint lines.name) 1 (Head.name ∷ []) nothing
+  unfolding spec.savepoint
   agrees-savepoint = agrees-bind agrees-name (λ found. agrees-pure (command.Savepoint found) nothing) refl
 
   pub agrees-savepoint_name : Agrees (Unit {0}) n spec.savepoint_name grammar.savepoint_name 1 (Head.word (codes "savepoint") ∷ Head.name ∷ []) bar_names
   unfolding spec.savepoint_name
   agrees-savepoint_name = agrees-before "savepoint" (looks-name (codes "savepoint")) (agrees-wider bar_names refl agrees-name)
 
-  pub agrees-release : Agrees (Unit {0}) n spec.release grammar.release 1 (Head.word (codes "savepoint") ∷ Head.name ∷ []) bar_names
-  unfolding spec.release grammar.release
+  pub agrees-release : Agrees (Unit {0}) n spec.release (lines.◌<$>◌ command.Release grammar.savepoint_name) 1 (Head.word (codes "savepoint") ∷ Head.name ∷ []) bar_names
+  unfolding spec.release
   agrees-release = agrees-bind agrees-savepoint_name (λ found. agrees-pure (command.Release found) bar_names) refl
 
   -- behind [WORK | TRANSACTION]

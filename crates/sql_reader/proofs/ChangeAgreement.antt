@@ -9,7 +9,7 @@ use Rattle.sql_reader_query.specs.declared.changes.Change.{Change}
 use Rattle.sql_reader_query.specs.declared.changes.Change.TheVariants.{Update, Delete}
 use Rattle.sql_reader_query.specs.declared.changes.InsertTarget.{InsertTarget}
 use Rattle.sql_expr.specs.Reading.{Text, Tokens, ◌>>=◌, ◌>>◌, pure, expect_word}
-use Rattle.sql_expr.specs.Reserved.{is_reserved}
+use Rattle.sql_expr.specs.Names.{is_reserved}
 use Rattle.sql_expr.specs.Lines.{Line, gives, nowhere, word as a_word, mark, maybe, any, list}
 use Rattle.sql_expr.specs.Lines as lines
 use Rattle.sql_reader_query.specs.Changes as spec
@@ -18,7 +18,7 @@ use Rattle.sql_reader_query.specs.Names as spec_names
 use Rattle.sql_reader_query.specs.Outputs as spec_outputs
 use Rattle.sql_reader_query.specs.Query as spec_query
 use Rattle.sql_reader.specs.ChangeGrammar as grammar
-use Rattle.sql_reader.specs.NameGrammar as names
+use Rattle.sql_reader.specs.QueryGrammar as names
 use Rattle.sql_expr.proofs.Heads.{Barred, Head, all_avoid}
 use Rattle.sql_expr.proofs.Agreement.{Agrees, nothing, bar_word, bar_sign, agrees-pure, agrees-refuse, agrees-bind, agrees-same, agrees-wider, agrees-fewer, agrees-word, agrees-sign, agrees-expect_word, agrees-expect_sign}
 use Rattle.sql_expr.proofs.ListAgreement.{agrees-list}

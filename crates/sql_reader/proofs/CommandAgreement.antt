@@ -24,7 +24,6 @@ use Rattle.sql_reader.specs.Commands as spec
 use Rattle.sql_reader.specs.CommandGrammar.{prepared_command, cursor_command, block_command, setting_command, catalog_command, Spells, IsRead}
 use Rattle.sql_reader.specs.CommandGrammar as grammar
 use Rattle.sql_reader_query.specs.Statements as statements
-use Rattle.sql_reader.specs.LineGrammar as line_grammar
 use Rattle.sql_expr.proofs.Heads.{Barred, Head, begins}
 use Rattle.sql_expr.proofs.Agreement.{Agrees}
 use Rattle.sql_reader.proofs.StatementAgreement.{agrees-statement_command}
@@ -240,14 +239,14 @@ catalog-complete ts c (inr (inr (inl here))) = behind_word (codes "truncate") (�
 catalog-complete ts c (inr (inr (inr (inl here)))) = behind_word (codes "analyze") (λ n. agrees-analyze {n = n}) (λ vs. refl) ts c here
 catalog-complete ts c (inr (inr (inr (inr here)))) = behind_word (codes "alter") (λ n. agrees-alter {n = n}) (λ vs. refl) ts c here
 
-line-complete : (ts : Tokens) (c : Command) → line_grammar.backslash_line ts c [] → spec.command ts ≡ Some (c, [])
-unfolding line_grammar.backslash_line spec.command
+line-complete : (ts : Tokens) (c : Command) → grammar.backslash_line ts c [] → spec.command ts ≡ Some (c, [])
+unfolding grammar.backslash_line spec.command
 line-complete ts c here = by here
   where
     at : (letters : Text) (behind : Tokens) → ts ≡ token.Backslash letters ∷ behind → spec.command ts ≡ Some (c, [])
-    at letters behind same = ap spec.command same ∙ (agrees-backslash_line {n = length behind} letters).complete behind c [] (omega arith) (subst (λ vs. line_grammar.backslash_line vs c []) same here) refl
+    at letters behind same = ap spec.command same ∙ (agrees-backslash_line {n = length behind} letters).complete behind c [] (omega arith) (subst (λ vs. grammar.backslash_line vs c []) same here) refl
 
-    by : line_grammar.backslash_line ts c [] → spec.command ts ≡ Some (c, [])
+    by : grammar.backslash_line ts c [] → spec.command ts ≡ Some (c, [])
     by (inl (u, behind, same, rest)) = at (codes "prepared") behind same
     by (inr (inl (u, behind, same, rest))) = at (codes "cursors") behind same
     by (inr (inr (inl (u, behind, same, rest)))) = at (codes "sync") behind same

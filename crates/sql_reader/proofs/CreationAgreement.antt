@@ -12,7 +12,7 @@ use Rattle.sql_expr.specs.Lines as lines
 use Rattle.sql_reader_query.specs.Names.{optional_names}
 use Rattle.sql_reader_catalog.specs.Creation as spec
 use Rattle.sql_reader.specs.CatalogGrammar as grammar
-use Rattle.sql_reader.specs.NameGrammar as names
+use Rattle.sql_reader.specs.QueryGrammar as names
 use Rattle.sql_expr.proofs.Heads.{Barred, Head, all_avoid}
 use Rattle.sql_expr.proofs.Agreement.{Agrees, nothing, bar_word, agrees-pure, agrees-bind, agrees-same, agrees-wider, agrees-fewer, agrees-word, agrees-sign, agrees-expect_word}
 use Rattle.sql_expr.proofs.ExpressionAgreement.{agrees-name}

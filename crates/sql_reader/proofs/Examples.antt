@@ -22,7 +22,6 @@ use Rattle.sql_tokens.specs.Tokens as tokens_tokens
 use Rattle.sql_expr.specs.Reading as expr_reading
 use Rattle.sql_expr.specs.Literals as expr_literals
 use Rattle.sql_expr.specs.Names as expr_names
-use Rattle.sql_expr.specs.Reserved as reserved
 use Rattle.sql_expr.specs.Expressions as expr_expressions
 use Rattle.sql_reader_query.specs.Lists as query_lists
 use Rattle.sql_reader_query.specs.Names as query_names
@@ -70,7 +69,7 @@ unfolding chars encode tokens_tokens.after_block tokens_tokens.block_turn tokens
     tokens_tokens.identifier_of tokens_tokens.word_at tokens_tokens.content_at tokens_tokens.quoted_at tokens_tokens.text_at
     tokens_tokens.number_at tokens_tokens.param_at tokens_tokens.backslash_at tokens_tokens.sign_at tokens_tokens.token_at
     tokens_tokens.piece_at tokens_tokens.tokens_from tokens_tokens.tokens_of expr_reading.taken expr_reading.sees_word
-    expr_reading.sees_sign expr_reading.separated_from expr_literals.numeral reserved.is_reserved expr_names.sees_name
+    expr_reading.sees_sign expr_reading.separated_from expr_literals.numeral expr_names.is_reserved expr_names.sees_name
     expr_expressions.column expr_expressions.grouped_from expr_expressions.parenthesized expr_expressions.call
     expr_expressions.named expr_expressions.primary expr_expressions.signed expr_expressions.product expr_expressions.sum
     expr_expressions.in_list expr_expressions.between expr_expressions.membership expr_expressions.comparison

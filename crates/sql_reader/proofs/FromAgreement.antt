@@ -4,7 +4,7 @@ use Rattle.sql_tokens.specs.declared.token.Sign.TheVariants as sign
 use Rattle.sql_tree.specs.declared.select.Join.{Join}
 use Rattle.sql_tree.specs.declared.select.Join.TheVariants.{Inner, Cross}
 use Rattle.sql_expr.specs.Reading.{Tokens, Parser, ◌>>=◌, ◌>>◌, ◌<$>◌, refuse, eat_word, expect_word}
-use Rattle.sql_expr.specs.Reserved.{is_reserved}
+use Rattle.sql_expr.specs.Names.{is_reserved}
 use Rattle.sql_expr.specs.Lines.{Line, gives, nowhere, word as a_word, maybe}
 use Rattle.sql_expr.specs.Lines as lines
 use Rattle.sql_expr.specs.Grammar as expression

@@ -12,7 +12,7 @@ use Rattle.sql_expr.specs.Names as names
 use Rattle.sql_reader_session.specs.Prepared as prepared
 use Rattle.sql_reader_session.specs.Lines as spec
 use Rattle.sql_reader.specs.PreparedGrammar as prepared_grammar
-use Rattle.sql_reader.specs.LineGrammar as grammar
+use Rattle.sql_reader.specs.CommandGrammar as grammar
 use Rattle.sql_expr.proofs.Heads.{clear}
 use Rattle.sql_expr.proofs.Agreement.{Agrees, agrees-pure, agrees-bind, agrees-wider}
 use Rattle.sql_expr.proofs.ExpressionAgreement.{agrees-name}

@@ -15,7 +15,7 @@ use Rattle.sql_tree.specs.declared.cursors.Motion.TheVariants as moves
 use Rattle.sql_expr.specs.Reading.{Text, Tokens, Outcome, Parser, and_then, ◌>>=◌, ◌<$>◌, pure, taken}
 use Rattle.sql_expr.specs.Lines.{Line, gives, unless, number, word as a_word, mark, maybe}
 use Rattle.sql_expr.specs.Lines as lines
-use Rattle.sql_expr.specs.Reserved.{is_reserved}
+use Rattle.sql_expr.specs.Names.{is_reserved}
 use Rattle.sql_reader_session.specs.declared.motions.Direction.{Direction}
 use Rattle.sql_reader_session.specs.declared.motions.Direction.TheVariants as direction
 use Rattle.sql_reader_session.specs.Cursors as cursors
@@ -360,12 +360,12 @@ module _ {n : ℕ} where
   unfolding cursors.fetch_tree grammar.fetch_tree is_reserved
   agrees-fetch_tree = agrees-bind agrees-optional_motion (λ motion. agrees-either (codes "from") (codes "in") refl refl (agrees-bind agrees-name (λ cursor. agrees-pure (record { motion = motion; cursor = cursor }) nothing) refl)) refl
 
-  pub agrees-fetch : Agrees (Unit {0}) n cursors.fetch grammar.fetch 1 motion_heads nothing
-  unfolding cursors.fetch grammar.fetch
+  pub agrees-fetch : Agrees (Unit {0}) n cursors.fetch (lines.◌<$>◌ command.Fetch grammar.fetch_tree) 1 motion_heads nothing
+  unfolding cursors.fetch
   agrees-fetch = agrees-map command.Fetch agrees-fetch_tree
 
-  pub agrees-move_cursor : Agrees (Unit {0}) n cursors.move_cursor grammar.move_cursor 1 motion_heads nothing
-  unfolding cursors.move_cursor grammar.move_cursor
+  pub agrees-move_cursor : Agrees (Unit {0}) n cursors.move_cursor (lines.◌<$>◌ command.Move grammar.fetch_tree) 1 motion_heads nothing
+  unfolding cursors.move_cursor
   agrees-move_cursor = agrees-map command.Move agrees-fetch_tree
 
   pub agrees-close : Agrees (Unit {0}) n cursors.close grammar.close 1 (Head.word (codes "all") ∷ Head.name ∷ []) nothing

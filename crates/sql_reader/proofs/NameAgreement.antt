@@ -6,7 +6,7 @@ use Rattle.sql_expr.specs.Lines.{Line, gives, mark}
 use Rattle.sql_expr.specs.Lines as lines
 use Rattle.sql_reader_query.specs.Lists as spec_lists
 use Rattle.sql_reader_query.specs.Names as spec
-use Rattle.sql_reader.specs.NameGrammar as grammar
+use Rattle.sql_reader.specs.QueryGrammar as grammar
 use Rattle.sql_expr.proofs.Heads.{Head}
 use Rattle.sql_expr.proofs.Agreement.{Agrees, nothing, bar_sign, agrees-pure, agrees-bind, agrees-same, agrees-sign, agrees-expect_sign}
 use Rattle.sql_expr.proofs.ListAgreement.{agrees-list}

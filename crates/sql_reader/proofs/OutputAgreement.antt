@@ -16,8 +16,7 @@ use Rattle.sql_expr.specs.Reading.{Text, Tokens, Parser, and_then, ◌>>=◌, �
 use Rattle.sql_expr.specs.Expressions as spec_expression
 use Rattle.sql_expr.specs.Literals.{digits_of}
 use Rattle.sql_expr.specs.Operators.{additive_of, multiplicative_of}
-use Rattle.sql_expr.specs.Names.{name_of, sees_name}
-use Rattle.sql_expr.specs.Reserved.{is_reserved}
+use Rattle.sql_expr.specs.Names.{is_reserved, name_of, sees_name}
 use Rattle.sql_expr.specs.Lines.{Line, gives, word as a_word, mark, maybe, said}
 use Rattle.sql_expr.specs.Lines as lines
 use Rattle.sql_expr.specs.Grammar as expression

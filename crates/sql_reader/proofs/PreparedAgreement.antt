@@ -7,13 +7,12 @@ use Rattle.sql_tree.specs.declared.command.Command.TheVariants as command
 use Rattle.sql_expr.specs.Reading.{Tokens, Parser, ◌>>=◌, ◌<$>◌, pure, refuse, eat_word, sees_word}
 use Rattle.sql_expr.specs.Lines.{Line, nowhere, gives, any, word as a_word}
 use Rattle.sql_expr.specs.Lines as lines
-use Rattle.sql_expr.specs.Names.{sees_name}
-use Rattle.sql_expr.specs.Reserved.{is_reserved}
+use Rattle.sql_expr.specs.Names.{is_reserved, sees_name}
 use Rattle.sql_expr.specs.Names as names
 use Rattle.sql_reader_query.specs.Names.{optional_names}
 use Rattle.sql_reader_session.specs.Prepared as spec
 use Rattle.sql_reader.specs.ChangeGrammar.{statement}
-use Rattle.sql_reader.specs.NameGrammar as name_grammar
+use Rattle.sql_reader.specs.QueryGrammar as name_grammar
 use Rattle.sql_reader.specs.PreparedGrammar as grammar
 use Rattle.sql_reader.specs.PreparedGrammar.{deallocated as target}
 use Rattle.sql_expr.proofs.Heads.{Barred, Head, and-left, and-right}
@@ -114,8 +113,8 @@ module _ {n : ℕ} where
   unfolding spec.execute_tree grammar.execute_tree
   agrees-execute_tree = agrees-bind agrees-name (λ name. agrees-map (λ found. record { name = name; arguments = found }) agrees-arguments) refl
 
-  pub agrees-execute : Agrees (Unit {0}) n spec.execute grammar.execute 1 (Head.name ∷ []) (bar_sign sign.LeftParen)
-  unfolding spec.execute grammar.execute
+  pub agrees-execute : Agrees (Unit {0}) n spec.execute (lines.◌<$>◌ command.Execute grammar.execute_tree) 1 (Head.name ∷ []) (bar_sign sign.LeftParen)
+  unfolding spec.execute
   agrees-execute = agrees-map command.Execute agrees-execute_tree
 
   -- ---- PREPARE and EXPLAIN
@@ -130,8 +129,8 @@ module _ {n : ℕ} where
   agrees-prepare_tree = agrees-bind agrees-name (λ name. agrees-bind agrees-types (λ types. agrees-bind (agrees-expect_word (codes "as")) (λ u.
       agrees-map (λ found. record { name = name; types = types; statement = found }) agrees-statement) refl) refl) refl
 
-  pub agrees-prepare : Agrees (Unit {0}) n spec.prepare grammar.prepare 3 (Head.name ∷ []) statement_tail
-  unfolding spec.prepare grammar.prepare
+  pub agrees-prepare : Agrees (Unit {0}) n spec.prepare (lines.◌<$>◌ command.Prepare grammar.prepare_tree) 3 (Head.name ∷ []) statement_tail
+  unfolding spec.prepare
   agrees-prepare = agrees-map command.Prepare agrees-prepare_tree
 
   pub agrees-explain : Agrees (Unit {0}) n spec.explain grammar.explain 1 explain_heads statement_tail

@@ -1,7 +1,7 @@
 -- Queries are read exactly where they are spelt.
 use Rattle.std.proofs.Common.{inl, inr, ℕ, Bool, true, false, [], ◌∷◌, codes, refl, arith}
 use Rattle.sql_expr.specs.Reading.{Tokens, pure}
-use Rattle.sql_expr.specs.Reserved.{is_reserved}
+use Rattle.sql_expr.specs.Names.{is_reserved}
 use Rattle.sql_expr.specs.Lines.{Line, gives, word as a_word, list}
 use Rattle.sql_expr.specs.Lines as lines
 use Rattle.sql_reader_query.specs.Lists as spec_lists

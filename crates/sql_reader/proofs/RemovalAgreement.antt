@@ -10,12 +10,11 @@ use Rattle.sql_tree.specs.declared.command.Command.TheVariants as command
 use Rattle.sql_expr.specs.Reading.{Tokens, ◌<$>◌, pure}
 use Rattle.sql_expr.specs.Lines.{Line, nowhere, gives, word as a_word, said}
 use Rattle.sql_expr.specs.Lines as lines
-use Rattle.sql_expr.specs.Names.{sees_name}
-use Rattle.sql_expr.specs.Reserved.{is_reserved}
+use Rattle.sql_expr.specs.Names.{is_reserved, sees_name}
 use Rattle.sql_reader_query.specs.Names.{relation}
 use Rattle.sql_reader_catalog.specs.Removal as spec
 use Rattle.sql_reader.specs.CatalogGrammar as grammar
-use Rattle.sql_reader.specs.NameGrammar as names
+use Rattle.sql_reader.specs.QueryGrammar as names
 use Rattle.sql_expr.proofs.Heads.{Barred, Head, clear, begins-clear, clear-begins, not-true}
 use Rattle.sql_expr.proofs.Agreement.{Agrees, nothing, bar_sign, tests-word, agrees-pure, agrees-refuse, agrees-bind, agrees-same, agrees-fewer, agrees-test, agrees-word}
 use Rattle.sql_expr.proofs.ExpressionAgreement.{agrees-name}

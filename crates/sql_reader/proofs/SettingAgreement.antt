@@ -15,7 +15,7 @@ use Rattle.sql_expr.specs.Reading.{Text, Tokens, Parser, ◌>>=◌, pure, sees_w
 use Rattle.sql_expr.specs.Lines.{Line, gives, ahead, unless, name, word as a_word, mark}
 use Rattle.sql_expr.proofs.Agreement.{one}
 use Rattle.sql_expr.specs.Lines as lines
-use Rattle.sql_expr.specs.Reserved.{is_reserved}
+use Rattle.sql_expr.specs.Names.{is_reserved}
 use Rattle.sql_expr.specs.Names as names
 use Rattle.sql_reader_session.specs.Keywords.{eat_before_name}
 use Rattle.sql_reader_session.specs.Settings.{text_of, is_setting_word}
@@ -26,6 +26,7 @@ use Rattle.sql_expr.proofs.Heads.{Barred, Head, bars, is}
 use Rattle.sql_expr.proofs.Agreement.{Agrees, Stands, nothing, bar_sign, agrees-pure, agrees-bind, agrees-same, agrees-word, agrees-taken, agrees-expect_sign}
 use Rattle.sql_expr.proofs.ListAgreement.{agrees-list}
 use Rattle.sql_expr.proofs.ExpressionAgreement.{agrees-name}
+use Rattle.sql_expr.proofs.TokenKinds.{free-word, word-free}
 use Rattle.sql_reader.proofs.LimitsAgreement.{agrees-numeral}
 use Rattle.sql_reader.proofs.KeywordAgreement.{agrees-keyword, looks-name}
 
@@ -49,7 +50,7 @@ text-there ts a us (t, e, v) = by t e v
     by-word w false true falsity reserved o t f r e v = let same = (bytes_eq-Decides w (codes "true")).0 t in let value : a ≡ w = cc in inr (inr (inr (inl (tt, us, subst (λ x. ts ≡ token.Word x ∷ us) same e, (value ∙ same, refl)))))
     by-word w false false true reserved o t f r e v = let same = (bytes_eq-Decides w (codes "false")).0 f in let value : a ≡ w = cc in inr (inr (inr (inr (tt, us, subst (λ x. ts ≡ token.Word x ∷ us) same e, (value ∙ same, refl)))))
     by-word w false false false true o t f r e v = cc
-    by-word w false false false false o t f r e v = let is : w ≡ a = cc in inl (inl (e ∙ ap (λ x. token.Word x ∷ us) is, subst (λ x. is_reserved x ≡ false) is r))
+    by-word w false false false false o t f r e v = let is : w ≡ a = cc in inl (inl (e ∙ ap (λ x. token.Word x ∷ us) is, free-word a (subst (λ x. is_reserved x ≡ false) is r)))
 
     by : (t : Token) → ts ≡ t ∷ us → text_of t ≡ Some a → grammar.setting_text ts a us
     by (token.Word w) e v = by-word w (bytes_eq w (codes "on")) (bytes_eq w (codes "true")) (bytes_eq w (codes "false")) (is_reserved w) refl refl refl refl e v
@@ -58,7 +59,7 @@ text-there ts a us (t, e, v) = by t e v
     by t e v = cc
 
 text-back : (ts : Tokens) (a : Text) (us : Tokens) → grammar.setting_text ts a us → one text_of ts a us
-text-back ts a us (inl (inl (e, r))) = (token.Word a, e, free (bytes_eq a (codes "on")) (bytes_eq a (codes "true")) (bytes_eq a (codes "false")) (is_reserved a) r)
+text-back ts a us (inl (inl (e, r))) = (token.Word a, e, free (bytes_eq a (codes "on")) (bytes_eq a (codes "true")) (bytes_eq a (codes "false")) (is_reserved a) (word-free a r))
   where
     free : (on truth falsity reserved : Bool) → reserved ≡ false → cond {A = Option Text} (on || truth || falsity || not reserved) (Some a) None ≡ Some a
     free on truth falsity true q = cc
@@ -184,8 +185,17 @@ set-back ts c us (local, middle, inl (u, start, here, (v, last, front, same)), r
     inr (tt, ts, (refl, not-local ts start here), inl (u, start, here, (v, last, front, moved local false middle last c us same rest)))
 set-back ts c us (local, middle, inr (inl (u, start, here, (v, last, front, same))), rest) = inl (u, start, here, (v, last, front, moved local true middle last c us same rest))
 set-back ts c us (local, middle, inr (inr (v, start, none, same)), rest) =
-    inr (tt, ts, (refl, λ a vs spelt. none.1 a vs (spelt.0, spelt.1, inr spelt.2, spelt.3)), inr (tt, ts, (refl, λ a vs spelt. none.1 a vs (spelt.0, spelt.1, inl spelt.2, spelt.3)),
-    moved local false middle ts c us (same.0, same.1 ∙ none.0) rest))
+    inr (
+      tt,
+      ts,
+      (refl, λ a vs spelt. none.1 a vs (spelt.0, spelt.1, inr spelt.2, spelt.3)),
+      inr (
+        tt,
+        ts,
+        (refl, λ a vs spelt. none.1 a vs (spelt.0, spelt.1, inl spelt.2, spelt.3)),
+        moved local false middle ts c us (same.0, same.1 ∙ none.0) rest,
+      ),
+    )
 
 module _ {n : ℕ} where
   pub agrees-set : Agrees (Unit {0}) n spec.set grammar.set 3 (Head.word (codes "local") ∷ Head.word (codes "session") ∷ Head.name ∷ []) (bar_sign sign.Comma)
@@ -193,10 +203,10 @@ module _ {n : ℕ} where
   agrees-set = agrees-same set-there set-back (agrees-keyword (codes "local") (λ found. cond found (pure true) (eat_before_name (codes "session") >>= (λ u. pure false)) >>= scoped_read) (looks-name (codes "local")) (agrees-scoped true)
       (agrees-keyword (codes "session") (λ found. scoped_read false) (looks-name (codes "session")) (agrees-scoped false) (agrees-scoped false)))
 
-  pub agrees-reset : Agrees (Unit {0}) n spec.reset grammar.reset 1 (Head.name ∷ []) nothing
-  unfolding spec.reset grammar.reset
+  pub agrees-reset : Agrees (Unit {0}) n spec.reset (lines.◌<$>◌ command.Reset name) 1 (Head.name ∷ []) nothing
+  unfolding spec.reset
   agrees-reset = agrees-bind agrees-name (λ found. agrees-pure (command.Reset found) nothing) refl
 
-  pub agrees-show : Agrees (Unit {0}) n spec.show grammar.show 1 (Head.name ∷ []) nothing
-  unfolding spec.show grammar.show
+  pub agrees-show : Agrees (Unit {0}) n spec.show (lines.◌<$>◌ command.Show name) 1 (Head.name ∷ []) nothing
+  unfolding spec.show
   agrees-show = agrees-bind agrees-name (λ found. agrees-pure (command.Show found) nothing) refl

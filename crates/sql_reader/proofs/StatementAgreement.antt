@@ -9,7 +9,7 @@ use Rattle.sql_tree.specs.declared.statement.Statement.TheVariants.{Select, Inse
 use Rattle.sql_reader_query.specs.declared.changes.Change.{Change}
 use Rattle.sql_expr.specs.Reading.{Tokens, Outcome, Parser, and_then, ◌>>=◌, ◌<$>◌, pure, taken, eat_word, sees_word, sees_sign}
 use Rattle.sql_expr.specs.Expressions as spec_expression
-use Rattle.sql_expr.specs.Reserved.{is_reserved}
+use Rattle.sql_expr.specs.Names.{is_reserved}
 use Rattle.sql_expr.specs.Lines.{Line, gives, word as a_word, maybe}
 use Rattle.sql_expr.specs.Lines as lines
 use Rattle.sql_expr.specs.Grammar as expression

@@ -9,7 +9,7 @@ use Rattle.sql_tree.specs.declared.catalog.TableElement.TheVariants as element_o
 use Rattle.sql_expr.specs.Reading.{Tokens}
 use Rattle.sql_expr.specs.Lines.{Line, gives, word as a_word}
 use Rattle.sql_expr.specs.Lines as lines
-use Rattle.sql_expr.specs.Reserved.{is_reserved}
+use Rattle.sql_expr.specs.Names.{is_reserved}
 use Rattle.sql_reader_catalog.specs.Tables as spec
 use Rattle.sql_reader.specs.CatalogGrammar as grammar
 use Rattle.sql_expr.proofs.Heads.{Barred, Head}

@@ -16,19 +16,15 @@ use Rattle.sql_tree.specs.declared.catalog.TableElement.TheVariants as element_o
 use Rattle.sql_tree.specs.declared.command.Command.TheVariants as command
 use Rattle.sql_tree.specs.declared.expr.Literal.TheVariants as literal_of
 use Rattle.sql_tree.specs.declared.statement.Statement.TheVariants as statement
-use Rattle.sql_expr.specs.Texts.{Text}
-use Rattle.sql_expr.specs.Lines.{Line, ◌>>=◌, ◌>>◌, ◌<$>◌, ◌or◌, nowhere, gives, name, number, key, mark, ahead, before, maybe, any, said, many, list}
+use Rattle.sql_expr.specs.Lines.{Text, Line, ◌>>=◌, ◌>>◌, ◌<$>◌, ◌or◌, nowhere, gives, name, number, key, mark, ahead, before, maybe, any, said, many, list}
 use Rattle.sql_expr.specs.Grammar.{literal}
-use Rattle.sql_reader.specs.NameGrammar.{relation, parenthesized_names}
-use Rattle.sql_reader.specs.QueryGrammar.{select}
+use Rattle.sql_reader.specs.QueryGrammar.{relation, parenthesized_names, select}
 
 -- ---- definitions of columns
 
--- "-" number
 abbrev pub negative : Line Numeral
 negative = do mark sign.Minus; digits ← number; gives (record { negative = true; digits = digits })
 
--- ["-"] number | string | NULL | TRUE | FALSE
 unfoldable pub constant : Line Literal
 constant = literal or literal_of.Number <$> negative
 
@@ -38,12 +34,11 @@ pub data Part : Type 0 where
   default : Literal → Part
   keyed : KeyKind → Part
 
--- PRIMARY KEY | UNIQUE, in CREATE TABLE alone
+-- in CREATE TABLE alone
 unfoldable pub key_part : Bool → Line Part
 key_part true = key "primary" >> (key "key" >> gives (Part.keyed kind.Primary)) or key "unique" >> gives (Part.keyed kind.Unique)
 key_part false = nowhere
 
--- NOT NULL | NULL | DEFAULT constant | PRIMARY KEY | UNIQUE
 unfoldable pub part : Bool → Line Part
 part with_keys = key "not" >> (key "null" >> gives (Part.nulls false)) or key "null" >> gives (Part.nulls true)
     or key "default" >> Part.default <$> constant or key_part with_keys
@@ -78,7 +73,6 @@ keys_of (_ ∷ parts) = keys_of parts
 abbrev pub provided : Bool → Line (Unit {0})
 provided holds ts u us = (us ≡ ts) × (holds ≡ true)
 
--- name type {NOT NULL | NULL | DEFAULT constant | PRIMARY KEY | UNIQUE}
 unfoldable pub column_def : Bool → Line ColumnDef
 column_def with_keys = do
   column ← name
@@ -92,30 +86,28 @@ column_def with_keys = do
 abbrev pub constraint : KeyKind → Line TableElement
 constraint kind = (λ columns. element_of.Key (record { kind = kind; columns = columns })) <$> parenthesized_names
 
--- PRIMARY KEY "(" names ")" | UNIQUE "(" names ")" | column_def
 unfoldable pub element : Line TableElement
 element = key "primary" >> (key "key" >> constraint kind.Primary) or key "unique" >> constraint kind.Unique
     or element_of.Column <$> column_def true
 
--- relation "(" list(element) ")"
 unfoldable pub table : Line TableTree
 table = do
   name ← relation
-  mark sign.LeftParen; elements ← list element; mark sign.RightParen
+  mark sign.LeftParen
+  elements ← list element
+  mark sign.RightParen
   gives (record { name = name; elements = elements })
 
--- PRESERVE ROWS | DELETE ROWS | DROP
 abbrev pub commit_action : Line OnCommit
 commit_action = key "preserve" >> (key "rows" >> gives Preserve) or key "delete" >> (key "rows" >> gives Delete) or key "drop" >> gives Drop
 
--- [ON COMMIT (PRESERVE ROWS | DELETE ROWS | DROP)]
+-- without it, the rows stay
 unfoldable pub on_commit : Line OnCommit
 on_commit = key "on" >> (key "commit" >> commit_action) or gives Preserve
 
 unfoldable pub temp_table : Line TempTableTree
 temp_table = do made ← table; ends ← on_commit; gives (record { table = made; on_commit = ends })
 
--- name ON relation "(" names ")"
 unfoldable pub index : Bool → Line IndexTree
 index unique = do
   index_name ← name
@@ -124,7 +116,6 @@ index unique = do
   columns ← parenthesized_names
   gives (record { name = index_name; unique = unique; table = indexed; columns = columns })
 
--- [OR REPLACE] VIEW relation ["(" names ")"] AS select
 unfoldable pub view : Line ViewTree
 view = do
   replace ← key "or" >> (key "replace" >> gives true) or gives false
@@ -135,7 +126,6 @@ view = do
   query ← select
   gives (record { name = view_name; replace = replace; columns = columns; query = statement.ViewSelect query })
 
--- SCHEMA name | TABLE table | (TEMP | TEMPORARY) TABLE temp_table | [UNIQUE] INDEX index | view
 unfoldable pub create : Line Command
 create = key "schema" >> (λ made. command.Schema (schema.Create made)) <$> name
     or key "table" >> command.CreateTable <$> table
@@ -145,24 +135,20 @@ create = key "schema" >> (λ made. command.Schema (schema.Create made)) <$> name
 
 -- ---- DROP, TRUNCATE and ANALYZE
 
--- TABLE | VIEW | INDEX
 unfoldable pub object_kind : Line ObjectKind
 object_kind = key "table" >> gives object.Table or key "view" >> gives object.View or key "index" >> gives object.Index
 
--- [RESTRICT | CASCADE], and whether it is CASCADE
+-- whether it is CASCADE
 abbrev pub cascaded : Line Bool
 cascaded = key "restrict" >> gives false or key "cascade" >> gives true or gives false
 
--- SCHEMA name | (TABLE | VIEW | INDEX) relation [RESTRICT | CASCADE]
 unfoldable pub drop_object : Line Command
 drop_object = key "schema" >> (λ dropped. command.Schema (schema.Drop dropped)) <$> name
     or (do kind ← object_kind; dropped ← relation; cascade ← cascaded; gives (command.Drop (record { kind = kind; name = dropped; cascade = cascade })))
 
--- [TABLE] relation
 unfoldable pub truncate : Line Command
 truncate = said "table" >> command.Truncate <$> relation
 
--- [relation]
 unfoldable pub analyze : Line Command
 analyze = (λ table. command.Analyze (Some table)) <$> relation or gives (command.Analyze None)
 
@@ -174,7 +160,6 @@ renamed = key "to" >> name
 abbrev pub not_null : Line (Unit {0})
 not_null = key "not" >> key "null"
 
--- [SET DATA] TYPE type | SET DEFAULT constant | DROP DEFAULT | SET NOT NULL | DROP NOT NULL
 unfoldable pub change : Text → Line AlterAction
 change column = (do maybe (key "set" >> key "data"); key "type"; alteration.SetType column <$> name)
     or (do key "set"; key "default"; alteration.SetDefault column <$> constant)
@@ -182,12 +167,10 @@ change column = (do maybe (key "set" >> key "data"); key "type"; alteration.SetT
     or key "set" >> (not_null >> gives (alteration.SetNotNull column))
     or key "drop" >> (not_null >> gives (alteration.DropNotNull column))
 
--- TYPE name | SET | DROP DEFAULT | DROP NOT: what shows that a change comes
+-- what shows that a change comes
 abbrev pub change_begun : Line (Unit {0})
 change_begun = key "type" >> ahead name or key "set" or key "drop" >> (key "default" or key "not")
 
--- ADD [COLUMN] name type {NOT NULL | NULL | DEFAULT constant} | DROP [COLUMN] name | RENAME [COLUMN] name TO name
--- | RENAME TO name | SET SCHEMA name | ALTER [COLUMN] name change
 unfoldable pub action : Line AlterAction
 action = (do key "add"; before "column" (name >> name); alteration.AddColumn <$> column_def false)
     or (do key "drop"; before "column" name; alteration.DropColumn <$> name)
@@ -196,11 +179,9 @@ action = (do key "add"; before "column" (name >> name); alteration.AddColumn <$>
     or key "set" >> (key "schema" >> alteration.SetSchema <$> name)
     or (do key "alter"; before "column" (name >> change_begun); column ← name; change column)
 
--- name RENAME TO name
 unfoldable pub renaming : Line SchemaCommand
 renaming = do old ← name; key "rename"; schema.Rename old <$> renamed
 
--- SCHEMA name RENAME TO name | TABLE relation action
 unfoldable pub alter : Line Command
 alter = key "schema" >> command.Schema <$> renaming
     or (do key "table"; altered ← relation; done ← action; gives (command.AlterTable (record { table = altered; action = done })))

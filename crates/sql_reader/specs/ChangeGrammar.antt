@@ -8,21 +8,18 @@ use Rattle.sql_tree.specs.declared.rows.NewValue.TheVariants as value_of
 use Rattle.sql_tree.specs.declared.statement.Statement.TheVariants.{Select, Insert, Update, Delete}
 use Rattle.sql_expr.specs.Lines.{Line, ◌>>=◌, ◌>>◌, ◌<$>◌, ◌or◌, gives, name, key, mark, maybe, any, list, parenthesized}
 use Rattle.sql_expr.specs.Grammar.{expression}
-use Rattle.sql_reader.specs.NameGrammar.{relation, parenthesized_names}
-use Rattle.sql_reader.specs.QueryGrammar.{output, select}
+use Rattle.sql_reader.specs.QueryGrammar.{relation, parenthesized_names, output, select}
 
--- [RETURNING list(output)]
 unfoldable pub returning : Line (List OutputItem)
 returning = any (key "returning" >> list output)
 
--- DEFAULT | expression
 unfoldable pub value : Line NewValue
 value = key "default" >> gives value_of.Default or value_of.Expr <$> expression
 
 unfoldable pub row : Line (List NewValue)
 row = parenthesized (list value)
 
--- INTO relation ["(" names ")"] VALUES list(row) returning, behind INSERT
+-- behind INSERT
 unfoldable pub insertion : Line InsertTree
 insertion = do
   key "into"
@@ -33,7 +30,6 @@ insertion = do
   given ← returning
   gives (record { table = table; columns = columns; rows = rows; returning = given })
 
--- name "=" value
 unfoldable pub assignment : Line Assignment
 assignment = do column ← name; mark sign.Equal; new ← value; gives (record { column = column; value = new })
 
@@ -41,7 +37,7 @@ assignment = do column ← name; mark sign.Equal; new ← value; gives (record {
 abbrev pub Change : Type 0
 Change = Option Expr → List OutputItem → Statement
 
--- relation SET list(assignment), behind UPDATE
+-- behind UPDATE
 unfoldable pub updated : Line Change
 updated = do
   table ← relation
@@ -49,33 +45,31 @@ updated = do
   assignments ← list assignment
   gives (λ filter given. Update (record { table = table; assignments = assignments; condition = filter; returning = given }))
 
--- FROM relation, behind DELETE
+-- behind DELETE
 unfoldable pub deleted : Line Change
 deleted = do
   key "from"
   table ← relation
   gives (λ filter given. Delete (record { table = table; condition = filter; returning = given }))
 
--- [WHERE expression] returning, behind either
+-- behind either
 unfoldable pub searched : Change → Line Statement
 searched change = do filter ← maybe (key "where" >> expression); given ← returning; gives (change filter given)
 
--- WHERE CURRENT OF name returning, behind either
 unfoldable pub positioned : Change → Line PositionedTree
 positioned change = do
-  key "where"; key "current"; key "of"
+  key "where"
+  key "current"
+  key "of"
   cursor ← name
   given ← returning
   gives (record { statement = change None given; cursor = cursor })
 
--- UPDATE updated | DELETE deleted
 unfoldable pub changed : Line Change
 changed = key "update" >> updated or key "delete" >> deleted
 
--- select | INSERT insertion | (UPDATE updated | DELETE deleted) searched
 unfoldable pub statement : Line Statement
 statement = Select <$> select or Insert <$> (key "insert" >> insertion) or (changed >>= searched)
 
--- statement | (UPDATE updated | DELETE deleted) positioned
 unfoldable pub statement_command : Line Command
 statement_command = command.Statement <$> statement or command.Positioned <$> (changed >>= positioned)

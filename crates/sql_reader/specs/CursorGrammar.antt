@@ -6,8 +6,7 @@ use Rattle.sql_tree.specs.declared.{command.Command.Command, cursors.CursorOptio
 use Rattle.sql_tree.specs.declared.command.Command.TheVariants as command
 use Rattle.sql_tree.specs.declared.cursors.Motion.TheVariants as moves
 use Rattle.sql_tree.specs.declared.statement.Statement.TheVariants as statement
-use Rattle.sql_expr.specs.Texts.{Text}
-use Rattle.sql_expr.specs.Lines.{Line, ◌>>=◌, ◌>>◌, ◌<$>◌, ◌or◌, gives, name, number, key, mark, unless, maybe, many}
+use Rattle.sql_expr.specs.Lines.{Text, Line, ◌>>=◌, ◌>>◌, ◌<$>◌, ◌or◌, gives, name, number, key, mark, unless, maybe, many}
 use Rattle.sql_reader.specs.QueryGrammar.{select}
 
 -- the number that decimal digits write
@@ -15,14 +14,13 @@ abbrev pub decimal : Text → ℕ
 decimal [] = 0
 decimal (d ∷ digits) = (d - 48) * 10 ^ length digits + decimal digits
 
--- number, at most 2147483647
+-- at most 2147483647
 abbrev pub count : Line ℕ
 count ts n us = (digits : Text) × number ts digits us × (n ≡ decimal digits) × (n ≤ 2147483647)
 
 abbrev no_options : CursorOptions
 no_options = record { scroll = false; no_scroll = false; insensitive = false; asensitive = false }
 
--- SCROLL | NO SCROLL | INSENSITIVE | ASENSITIVE
 abbrev pub cursor_option : Line CursorOptions
 cursor_option = key "scroll" >> gives (record no_options { scroll = true })
     or key "no" >> (key "scroll" >> gives (record no_options { no_scroll = true }))
@@ -38,11 +36,11 @@ gathered written = record {
   asensitive = list_any (λ option. option.asensitive) written;
 }
 
--- [(WITH | WITHOUT) HOLD], and whether WITH is written
+-- whether WITH is written
 abbrev pub hold : Line Bool
 hold = key "with" >> (key "hold" >> gives true) or key "without" >> (key "hold" >> gives false) or gives false
 
--- name {cursor_option} CURSOR [(WITH | WITHOUT) HOLD] FOR select, behind DECLARE
+-- behind DECLARE
 unfoldable pub declare : Line Command
 declare = do
   cursor ← name
@@ -53,11 +51,9 @@ declare = do
   query ← select
   gives (command.Declare (record { name = cursor; options = options; hold = held; query = statement.Select query }))
 
--- ["-"] count
 unfoldable pub integer : Line ℤ
 integer = pos <$> count or mark sign.Minus >> (λ n. neg_ℤ (pos n)) <$> count
 
--- NEXT | PRIOR | FIRST | LAST | ABSOLUTE integer | RELATIVE integer | integer | ALL | (FORWARD | BACKWARD) [ALL | integer]
 unfoldable pub motion : Line Motion
 motion = key "next" >> gives moves.Next or key "prior" >> gives moves.Prior
     or key "first" >> gives moves.First or key "last" >> gives moves.Last
@@ -69,11 +65,10 @@ motion = key "next" >> gives moves.Next or key "prior" >> gives moves.Prior
 abbrev pub direction : Line (Unit {0})
 direction = key "next" or key "prior" or key "first" or key "last" or key "absolute" or key "relative" or key "all" or key "forward" or key "backward"
 
--- [motion], which is left out only where no direction comes next, and then is NEXT
+-- left out only where no direction comes next, and then NEXT
 abbrev pub optional_motion : Line Motion
 optional_motion = motion or unless direction >> gives moves.Next
 
--- [motion] [FROM | IN] name
 unfoldable pub fetch_tree : Line FetchTree
 fetch_tree = do
   motion ← optional_motion
@@ -81,12 +76,6 @@ fetch_tree = do
   cursor ← name
   gives (record { motion = motion; cursor = cursor })
 
-unfoldable pub fetch : Line Command
-fetch = command.Fetch <$> fetch_tree
-
-unfoldable pub move_cursor : Line Command
-move_cursor = command.Move <$> fetch_tree
-
--- ALL | name, behind CLOSE
+-- behind CLOSE
 unfoldable pub close : Line Command
 close = key "all" >> gives command.CloseAll or command.Close <$> name

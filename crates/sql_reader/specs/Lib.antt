@@ -6,7 +6,5 @@ pub mod Commands
 pub mod CursorGrammar
 pub mod Examples
 pub mod Leading
-pub mod LineGrammar
-pub mod NameGrammar
 pub mod PreparedGrammar
 pub mod QueryGrammar

@@ -5,12 +5,11 @@ use Rattle.sql_tree.specs.declared.command.Command.TheVariants as command
 use Rattle.sql_expr.specs.Lines.{Line, ◌>>=◌, ◌>>◌, ◌<$>◌, ◌or◌, gives, name, key, any, before, list, parenthesized}
 use Rattle.sql_expr.specs.Grammar.{expression}
 use Rattle.sql_reader.specs.ChangeGrammar.{statement}
-use Rattle.sql_reader.specs.NameGrammar.{parenthesized_names}
+use Rattle.sql_reader.specs.QueryGrammar.{parenthesized_names}
 
 unfoldable pub arguments : Line (List Expr)
 arguments = parenthesized (list expression)
 
--- name ["(" names ")"] AS statement
 unfoldable pub prepare_tree : Line PrepareTree
 prepare_tree = do
   n ← name
@@ -19,28 +18,20 @@ prepare_tree = do
   s ← statement
   gives (record { name = n; types = types; statement = s })
 
-unfoldable pub prepare : Line Command
-prepare = command.Prepare <$> prepare_tree
-
--- name ["(" list(expression) ")"]
 unfoldable pub execute_tree : Line ExecuteTree
 execute_tree = do n ← name; found ← any arguments; gives (record { name = n; arguments = found })
 
-unfoldable pub execute : Line Command
-execute = command.Execute <$> execute_tree
-
--- statement | EXECUTE execute_tree, behind EXPLAIN
+-- behind EXPLAIN
 unfoldable pub explain : Line Command
 explain = command.Explain <$> statement or key "execute" >> command.ExplainExecute <$> execute_tree
 
--- ALL | name
 abbrev pub deallocated : Line Command
 deallocated = key "all" >> gives command.DeallocateAll or command.Deallocate <$> name
 
--- [PREPARE] (ALL | name), behind DEALLOCATE
+-- behind DEALLOCATE
 unfoldable pub deallocate : Line Command
 deallocate = before "prepare" deallocated >> deallocated
 
--- PLANS | TEMP | TEMPORARY, behind DISCARD
+-- behind DISCARD
 unfoldable pub discard : Line Command
 discard = key "plans" >> gives command.DiscardPlans or (key "temp" or key "temporary") >> gives command.DiscardTemp

@@ -11,8 +11,7 @@ use Rattle.sql_tree.specs.declared.command.Command.{Command}
 use Rattle.sql_tree.specs.declared.command.Command.TheVariants as command
 use Rattle.sql_tree.specs.declared.expr.Numeral.{Numeral}
 use Rattle.sql_expr.specs.Reading.{Text, Parser, ◌>>=◌, ◌>>◌, ◌<$>◌, pure, taken, eat_word, eat_sign, expect_sign, separated}
-use Rattle.sql_expr.specs.Names.{name}
-use Rattle.sql_expr.specs.Reserved.{is_reserved}
+use Rattle.sql_expr.specs.Names.{is_reserved, name}
 use Rattle.sql_expr.specs.Literals.{numeral}
 use Rattle.sql_reader_session.specs.Keywords.{eat_before_name}
 
