@@ -1,14 +1,12 @@
 -- Expressions are read exactly where they are spelt.
-use Rattle.std.proofs.Common.{◌≡◌, inl, inr, ⊎_elim, ℕ, zero, suc, ◌+◌, ◌≤◌, Bool, true, false, cond, not, ◌||◌, List, [], ◌∷◌, ◌++◌, length, Option, Some, None, codes, refl, sym, ap, subst, ◌∙◌, arith}
-use Rattle.std.specs.Prelude.{is_some}
-use Rattle.sql_tokens.specs.declared.token.Token.{Token}
+use Rattle.std.proofs.Common.{◌≡◌, inl, inr, ℕ, zero, suc, ◌+◌, ◌≤◌, Bool, true, false, cond, not, ◌||◌, List, [], ◌∷◌, ◌++◌, length, Some, None, codes, refl, sym, subst, ◌∙◌, arith}
 use Rattle.sql_tokens.specs.declared.token.Token.TheVariants as token
 use Rattle.sql_tokens.specs.declared.token.Sign.TheVariants as sign
 use Rattle.sql_tree.specs.declared.expr.Expr.{Expr}
 use Rattle.sql_tree.specs.declared.expr.Expr.TheVariants as e
 use Rattle.sql_expr.specs.declared.grammar.Level.{Level}
 use Rattle.sql_expr.specs.declared.grammar.Level.TheVariants.{Whole, Negated, Signed}
-use Rattle.sql_expr.specs.Reading.{Text, Tokens, Parser, ◌>>=◌, pure, refuse, taken, taken_first, eat_word, goes_on}
+use Rattle.sql_expr.specs.Reading.{Text, Tokens, Parser, ◌>>=◌, pure, refuse, eat_word, goes_on}
 use Rattle.sql_expr.specs.Names.{is_reserved}
 use Rattle.sql_expr.specs.Names as names
 use Rattle.sql_expr.specs.Expressions as spec
@@ -16,7 +14,7 @@ use Rattle.sql_expr.specs.Lines.{Line, nowhere, gives, unless, word as a_word, m
 use Rattle.sql_expr.specs.Lines as lines
 use Rattle.sql_expr.specs.Ended.{is_ended}
 use Rattle.sql_expr.specs.Grammar as grammar
-use Rattle.sql_expr.proofs.Heads.{Barred, Head, clear, has_word, begins, begins-left, begins-right}
+use Rattle.sql_expr.proofs.Heads.{Barred, Head, clear, has_word}
 use Rattle.sql_expr.proofs.Agreement.{Agrees, nothing, tests-word, agrees-pure, agrees-refuse, agrees-bind, agrees-same, agrees-wider, agrees-fewer, agrees-test, agrees-word, agrees-sign, agrees-word-deeper, agrees-sign-deeper, agrees-expect_word, agrees-expect_sign, agrees-behind, agrees-said, agrees-taken, agrees-unless, agrees-one}
 use Rattle.sql_expr.proofs.ListAgreement.{agrees-list}
 use Rattle.sql_expr.proofs.OperandAgreement.{agrees-operands, agrees-chain}

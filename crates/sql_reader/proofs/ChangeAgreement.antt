@@ -116,11 +116,11 @@ positioned_line c = lines.◌>>=◌ position_line (λ cursor. lines.◌>>=◌ gr
 positioned-there : (c : Change) (ts : Tokens) (p : PositionedTree) (us : Tokens) → positioned_line c ts p us → grammar.positioned (spec.statement_of c) ts p us
 unfolding grammar.positioned
 positioned-there c ts p us (cursor, middle, (u, behind_where, where_word, (v, behind_current, current, (x, behind_of, of, named))), rest) =
-    (u, behind_where, where_word, (v, behind_current, current, (x, behind_of, of, (cursor, middle, named, rest))))
+    (x, behind_of, (v, behind_current, (u, behind_where, where_word, current), of), (cursor, middle, named, rest))
 
 positioned-back : (c : Change) (ts : Tokens) (p : PositionedTree) (us : Tokens) → grammar.positioned (spec.statement_of c) ts p us → positioned_line c ts p us
 unfolding grammar.positioned
-positioned-back c ts p us (u, behind_where, where_word, (v, behind_current, current, (x, behind_of, of, (cursor, middle, named, rest)))) =
+positioned-back c ts p us (x, behind_of, (v, behind_current, (u, behind_where, where_word, current), of), (cursor, middle, named, rest)) =
     (cursor, middle, (u, behind_where, where_word, (v, behind_current, current, (x, behind_of, of, named))), rest)
 
 agrees-position : {n : ℕ} → Agrees (Unit {0}) n spec.position position_line 4 (Head.word (codes "where") ∷ []) nothing

@@ -1,11 +1,10 @@
 -- Lines with a part that may be left out, and words that are a keyword by what stands behind them.
-use Rattle.std.proofs.Common.{◌≡◌, inl, inr, ⊎_elim, ℕ, suc, ◌≤◌, Bool, true, false, cond, ◌&&◌, ◌||◌, List, [], ◌∷◌, ◌++◌, length, drop, Option, Some, None, codes, refl, sym, ap, subst, ◌∙◌, arith}
+use Rattle.std.proofs.Common.{◌≡◌, inl, inr, ⊎_elim, ℕ, suc, ◌≤◌, Bool, true, false, cond, ◌&&◌, List, [], ◌∷◌, length, drop, Option, Some, None, codes, refl, sym, ap, subst, ◌∙◌, arith}
 use Rattle.std.specs.Prelude.{is_some, min}
 use Prim.Native.String.{String}
 use Rattle.std.proofs.lemmas.Grind.{common_steps}
-use Rattle.sql_tokens.specs.declared.token.Token.{Token}
 use Rattle.sql_tokens.specs.declared.token.Token.TheVariants as token
-use Rattle.sql_expr.specs.Reading.{Text, Tokens, Parser, ◌>>=◌, ◌>>◌, ◌<$>◌, pure, taken, taken_first, required, behind, eat_word, sees_word}
+use Rattle.sql_expr.specs.Reading.{Text, Tokens, Parser, ◌>>=◌, ◌>>◌, ◌<$>◌, pure, required, behind, eat_word, sees_word}
 use Rattle.sql_expr.specs.Names.{name_of, sees_name}
 use Rattle.sql_expr.specs.Lines.{Line, gives, ahead, unless, word as a_word, name, maybe}
 use Rattle.sql_expr.specs.Lines as lines

@@ -6,7 +6,7 @@ use Rattle.std.proofs.lemmas.List.{append_assoc, append-nil}
 use Rattle.sql_tokens.specs.declared.token.Token.{Token}
 use Rattle.sql_tokens.specs.declared.token.Sign.{Sign}
 use Rattle.sql_expr.specs.Reading.{Text, Tokens, Outcome, Parser, and_then, ◌>>=◌, ◌<$>◌, pure, refuse, taken, behind, eat_word, goes_on, sees_word}
-use Rattle.sql_expr.specs.Lines.{Line, gives, many, maybe, any, word as a_word}
+use Rattle.sql_expr.specs.Lines.{Line, gives, unless, many, maybe, any, word as a_word}
 use Rattle.sql_expr.specs.Lines as lines
 use Rattle.sql_reader_query.specs.Lists.{looking}
 use Rattle.sql_expr.proofs.Heads.{Barred, Head, clear, begins, all_avoid, begins-clear, clear-begins, begins-left, begins-right}
@@ -102,6 +102,39 @@ agrees-looking {S = S} {B = B} {sees = sees} {p = p} {q = q} {P = P} {Q = Q} {k 
     sound-by : S → (ts : Tokens) (b : B) (us : Tokens) (found : Bool) → sees ts ≡ found → cond (sees ts) p q ts ≡ Some (b, us) → (lines.◌or◌ P Q) ts b us
     sound-by s ts b us true seen_so e = inl (found_so.sound s ts b us (subst (λ x. cond x p q ts ≡ Some (b, us)) seen_so e))
     sound-by s ts b us false seen_so e = inr (not_so.sound s ts b us (subst (λ x. cond x p q ts ≡ Some (b, us)) seen_so e))
+
+-- The same where the line itself says that the tokens of the test don't come next.
+pub agrees-looking-unless : {S : Type 0} {n : ℕ} {A B : Type 0} {sees : Tokens → Bool} {L : Line A} {p q : Parser B} {P Q : Line B} {k m : ℕ} {inner heads : List Head} {tail : Barred}
+    → ((ts : Tokens) → sees ts ≡ true → (a : A) × (vs : Tokens) × L ts a vs) → ((ts : Tokens) (a : A) (vs : Tokens) → L ts a vs → sees ts ≡ true)
+    → ((ts : Tokens) (b : B) (us : Tokens) → P ts b us → sees ts ≡ true)
+    → Agrees S n p P k inner tail → Agrees S n q Q m heads tail
+    → Agrees S n (looking sees >>= (λ found. cond found p q)) (lines.◌or◌ P (lines.◌>>◌ (unless L) Q)) (min k m) (inner ++ heads) tail
+agrees-looking-unless {S = S} {A = A} {B = B} {sees = sees} {L = L} {p = p} {q = q} {P = P} {Q = Q} {k = k} {m = m} {inner = inner} {heads = heads} shows sure seen found_so not_so = record {
+  sound = λ s ts b us e. sound-by s ts b us (sees ts) refl e;
+  complete = λ ts b us within spelt c. ⊎_elim
+      (λ left. ap (λ x. cond x p q ts) (seen ts b us left) ∙ found_so.complete ts b us within left c)
+      (λ right. ap (λ x. cond x p q ts) (unseen ts right.2.1 (sees ts) refl) ∙ not_so.complete ts b us within (subst (λ vs. Q vs b us) right.2.0 right.3) c)
+      spelt;
+  starts = λ ts b us spelt c. ⊎_elim
+      (λ left. begins-left inner heads ts (found_so.starts ts b us left c))
+      (λ right. begins-right inner heads ts (not_so.starts ts b us (subst (λ vs. Q vs b us) right.2.0 right.3) c))
+      spelt;
+  takes = λ ts b us spelt. ⊎_elim
+      (λ left. let some = found_so.takes ts b us left in let least = min-first k m in omega arith)
+      (λ right. let some = not_so.takes ts b us (subst (λ vs. Q vs b us) right.2.0 right.3) in let least = min-second k m in omega arith)
+      spelt;
+}
+  where
+    unseen : (ts : Tokens) → ((a : A) (vs : Tokens) → ¬ L ts a vs) → (found : Bool) → sees ts ≡ found → sees ts ≡ false
+    unseen ts none true e = let there = shows ts e in absurd (none there.0 there.1 there.2)
+    unseen ts none false e = e
+
+    clashes : (ts : Tokens) → sees ts ≡ false → (a : A) (vs : Tokens) → ¬ L ts a vs
+    clashes ts e a vs spelt = let both = sym e ∙ sure ts a vs spelt in cc
+
+    sound-by : S → (ts : Tokens) (b : B) (us : Tokens) (found : Bool) → sees ts ≡ found → cond (sees ts) p q ts ≡ Some (b, us) → (lines.◌or◌ P (lines.◌>>◌ (unless L) Q)) ts b us
+    sound-by s ts b us true seen_so e = inl (found_so.sound s ts b us (subst (λ x. cond x p q ts ≡ Some (b, us)) seen_so e))
+    sound-by s ts b us false seen_so e = inr (tt, ts, (refl, clashes ts seen_so), not_so.sound s ts b us (subst (λ x. cond x p q ts ≡ Some (b, us)) seen_so e))
 
 -- ---- any number, read while a further one comes next
 

@@ -1,5 +1,5 @@
 -- DROP, TRUNCATE and ANALYZE are read exactly where they are spelt, each behind that word.
-use Rattle.std.proofs.Common.{◌≡◌, inl, inr, ℕ, Bool, true, false, List, [], ◌∷◌, Some, None, codes, refl, ap, subst, ◌∙◌, arith}
+use Rattle.std.proofs.Common.{◌≡◌, inl, inr, ℕ, Bool, true, false, List, [], ◌∷◌, Some, None, codes, refl, ap, subst, arith}
 use Rattle.std.specs.Prelude.{is_some}
 use Rattle.sql_tokens.specs.declared.token.Sign.TheVariants as sign
 use Rattle.sql_tree.specs.declared.catalog.ObjectKind.{ObjectKind}

@@ -4,7 +4,6 @@ use Rattle.std.specs.Prelude.{is_some}
 use Rattle.std.specs.List.{list_any}
 use Rattle.std.specs.Str.{bytes_eq}
 use Rattle.std.proofs.lemmas.Slice.Eq.{bytes_eq-Decides}
-use Rattle.q_base.specs.declared.settings.Setting.{Setting}
 use Rattle.q_base.specs.declared.settings.SetValue.TheVariants as value
 use Rattle.sql_tokens.specs.declared.token.Token.{Token}
 use Rattle.sql_tokens.specs.declared.token.Token.TheVariants as token
@@ -21,7 +20,6 @@ use Rattle.sql_reader_session.specs.Keywords.{eat_before_name}
 use Rattle.sql_reader_session.specs.Settings.{text_of, is_setting_word}
 use Rattle.sql_reader_session.specs.Settings as spec
 use Rattle.sql_reader.specs.BlockGrammar as grammar
-use Rattle.sql_reader.specs.QueryGrammar.{numeral}
 use Rattle.sql_expr.proofs.Heads.{Barred, Head, bars, is}
 use Rattle.sql_expr.proofs.Agreement.{Agrees, Stands, nothing, bar_sign, agrees-pure, agrees-bind, agrees-same, agrees-word, agrees-taken, agrees-expect_sign}
 use Rattle.sql_expr.proofs.ListAgreement.{agrees-list}

@@ -10,7 +10,7 @@ use Rattle.sql_reader_query.specs.declared.changes.Change.{Change}
 use Rattle.sql_expr.specs.Reading.{Tokens, Outcome, Parser, and_then, ◌>>=◌, ◌<$>◌, pure, taken, eat_word, sees_word, sees_sign}
 use Rattle.sql_expr.specs.Expressions as spec_expression
 use Rattle.sql_expr.specs.Names.{is_reserved}
-use Rattle.sql_expr.specs.Lines.{Line, gives, word as a_word, maybe}
+use Rattle.sql_expr.specs.Lines.{Line, gives, word as a_word, maybe, unless}
 use Rattle.sql_expr.specs.Lines as lines
 use Rattle.sql_expr.specs.Grammar as expression
 use Rattle.sql_reader_query.specs.Changes as spec_changes
@@ -23,17 +23,11 @@ use Rattle.sql_reader.specs.QueryGrammar as query
 use Rattle.sql_expr.proofs.Heads.{Barred, Head, clear, begins, begins-clear, and-left, and-right}
 use Rattle.sql_expr.proofs.Agreement.{Agrees, same_rest, word-seen, agrees-pure, agrees-bind, agrees-same, agrees-wider, agrees-fewer, agrees-word}
 use Rattle.sql_expr.proofs.ExpressionAgreement.{agrees-expression, operators}
-use Rattle.sql_reader.proofs.OptionalAgreement.{also, agrees-read, agrees-looking}
+use Rattle.sql_reader.proofs.OptionalAgreement.{also, agrees-read, agrees-looking-unless}
 use Rattle.sql_reader.proofs.QueryAgreement.{select_tail, agrees-selection}
 use Rattle.sql_reader.proofs.ChangeAgreement.{changed_line, changed-there, changed-back, where_tail, returning_tail, agrees-returning, agrees-insertion, agrees-change, agrees-searched, agrees-positioned}
 
--- ---- a column named current, and WHERE CURRENT OF
-
-current-column : (ts : Tokens) → spec_expression.expression (token.Word (codes "current") ∷ token.Word (codes "of") ∷ ts)
-    ≡ Some (e.Column (record { item = None; name = codes "current" }), token.Word (codes "of") ∷ ts)
-unfolding spec_expression.expression spec_expression.disjunction spec_expression.conjunction spec_expression.negation spec_expression.null_test spec_expression.comparison spec_expression.membership
-    spec_expression.sum spec_expression.product spec_expression.signed spec_expression.primary spec_expression.named spec_expression.column spec_expression.grouped_from taken sees_word sees_sign is_reserved
-current-column ts = refl
+-- ---- WHERE CURRENT OF
 
 record Position (ts : Tokens) : Type 0 where
   rest : Tokens
@@ -48,12 +42,19 @@ position-seen ts e =
     let third = word-seen (codes "of") (drop 1 (drop 1 ts)) (and-right (sees_word (codes "where") ts && sees_word (codes "current") (drop 1 ts)) (sees_word (codes "of") (drop 1 (drop 1 ts))) e) in
     record { rest = drop 1 (drop 1 (drop 1 ts)); same = first ∙ ap (λ vs. token.Word (codes "where") ∷ vs) (second ∙ ap (λ vs. token.Word (codes "current") ∷ vs) third) }
 
-sees-position : (c : Change) (ts : Tokens) (b : Command) (us : Tokens) → (lines.◌<$>◌ command.Positioned (grammar.positioned (spec_changes.statement_of c))) ts b us → spec_changes.sees_position ts ≡ true
-unfolding spec_changes.sees_position grammar.positioned sees_word
-sees-position c ts b us (p, end, (u, behind_where, where_word, (v, behind_current, current, (x, behind_of, of, named))), given) =
-    let same : ts ≡ token.Word (codes "where") ∷ token.Word (codes "current") ∷ token.Word (codes "of") ∷ behind_of
-    = where_word ∙ ap (λ vs. token.Word (codes "where") ∷ vs) (current ∙ ap (λ vs. token.Word (codes "current") ∷ vs) of) in
+current-there : (ts : Tokens) → spec_changes.sees_position ts ≡ true → (u : Unit {0}) × (vs : Tokens) × grammar.current_of ts u vs
+current-there ts e = let p = position-seen ts e in (tt, p.rest, (tt, token.Word (codes "of") ∷ p.rest, (tt, token.Word (codes "current") ∷ token.Word (codes "of") ∷ p.rest, p.same, refl), refl))
+
+sees-current : (ts : Tokens) (u : Unit {0}) (vs : Tokens) → grammar.current_of ts u vs → spec_changes.sees_position ts ≡ true
+unfolding spec_changes.sees_position sees_word
+sees-current ts u vs (v, behind_current, (x, behind_where, where_word, current), of) =
+    let same : ts ≡ token.Word (codes "where") ∷ token.Word (codes "current") ∷ token.Word (codes "of") ∷ vs
+    = where_word ∙ ap (λ ws. token.Word (codes "where") ∷ ws) (current ∙ ap (λ ws. token.Word (codes "current") ∷ ws) of) in
     ap spec_changes.sees_position same
+
+sees-position : (c : Change) (ts : Tokens) (b : Command) (us : Tokens) → (lines.◌<$>◌ command.Positioned (grammar.positioned (spec_changes.statement_of c))) ts b us → spec_changes.sees_position ts ≡ true
+unfolding grammar.positioned
+sees-position c ts b us (p, end, (x, behind_of, position, named), given) = sees-current ts x behind_of position
 
 -- ---- the readings by the first word
 
@@ -93,15 +94,15 @@ searched_line = lines.◌>>=◌ changed_line (λ c. grammar.searched (spec_chang
 
 statement-there : (ts : Tokens) (s : Statement) (us : Tokens) → by_word_line (λ s. s) searched_line ts s us → grammar.statement ts s us
 unfolding grammar.statement query.select
-statement-there ts s us (inl (u, middle, select, (q, end, spelt, given))) = inl (q, end, (u, middle, select, spelt), given)
-statement-there ts s us (inr (inl (u, middle, insert, (i, end, spelt, given)))) = inr (inl (i, end, (u, middle, insert, spelt), given))
-statement-there ts s us (inr (inr (c, middle, changed, rest))) = inr (inr (spec_changes.statement_of c, middle, changed-there ts c middle changed, rest))
+statement-there ts s us (inl (u, middle, select, (q, end, spelt, given))) = inl (inl (q, end, (u, middle, select, spelt), given))
+statement-there ts s us (inr (inl (u, middle, insert, (i, end, spelt, given)))) = inl (inr (i, end, (u, middle, insert, spelt), given))
+statement-there ts s us (inr (inr (c, middle, changed, rest))) = inr (spec_changes.statement_of c, middle, changed-there ts c middle changed, rest)
 
 statement-back : (ts : Tokens) (s : Statement) (us : Tokens) → grammar.statement ts s us → by_word_line (λ s. s) searched_line ts s us
 unfolding grammar.statement query.select
-statement-back ts s us (inl (q, end, (u, middle, select, spelt), given)) = inl (u, middle, select, (q, end, spelt, given))
-statement-back ts s us (inr (inl (i, end, (u, middle, insert, spelt), given))) = inr (inl (u, middle, insert, (i, end, spelt, given)))
-statement-back ts s us (inr (inr (f, middle, changed, rest))) =
+statement-back ts s us (inl (inl (q, end, (u, middle, select, spelt), given))) = inl (u, middle, select, (q, end, spelt, given))
+statement-back ts s us (inl (inr (i, end, (u, middle, insert, spelt), given))) = inr (inl (u, middle, insert, (i, end, spelt, given)))
+statement-back ts s us (inr (f, middle, changed, rest)) =
     let read = changed-back ts f middle changed in
     inr (inr (read.0, middle, read.2, subst (λ g. grammar.searched g middle s us) read.1 rest))
 
@@ -113,28 +114,27 @@ changing c = do
   found ← looking spec_changes.sees_position
   cond found (command.Positioned <$> spec_changes.positioned c) (command.Statement <$> spec_changes.searched c)
 
+abbrev changing_of : grammar.Change → Line Command
+changing_of f = lines.◌or◌ (lines.◌<$>◌ command.Positioned (grammar.positioned f)) (lines.◌>>◌ (unless grammar.current_of) (lines.◌<$>◌ command.Statement (grammar.searched f)))
+
 abbrev changing_line : Change → Line Command
-changing_line c = lines.◌or◌ (lines.◌<$>◌ command.Positioned (grammar.positioned (spec_changes.statement_of c))) (lines.◌<$>◌ command.Statement (grammar.searched (spec_changes.statement_of c)))
+changing_line c = changing_of (spec_changes.statement_of c)
 
 command-there : (ts : Tokens) (b : Command) (us : Tokens) → by_word_line command.Statement (lines.◌>>=◌ changed_line changing_line) ts b us → grammar.statement_command ts b us
-unfolding grammar.statement_command grammar.statement query.select
+unfolding grammar.statement_command query.select
 command-there ts b us (inl (u, middle, select, (q, end, spelt, given))) = inl (Select q, end, inl (q, end, (u, middle, select, spelt), (refl, refl)), given)
-command-there ts b us (inr (inl (u, middle, insert, (i, end, spelt, given)))) = inl (Insert i, end, inr (inl (i, end, (u, middle, insert, spelt), (refl, refl))), given)
-command-there ts b us (inr (inr (c, middle, changed, inl (p, end, spelt, given)))) = inr (p, end, (spec_changes.statement_of c, middle, changed-there ts c middle changed, spelt), given)
-command-there ts b us (inr (inr (c, middle, changed, inr (s, end, spelt, given)))) = inl (s, end, inr (inr (spec_changes.statement_of c, middle, changed-there ts c middle changed, spelt)), given)
+command-there ts b us (inr (inl (u, middle, insert, (i, end, spelt, given)))) = inl (Insert i, end, inr (i, end, (u, middle, insert, spelt), (refl, refl)), given)
+command-there ts b us (inr (inr (c, middle, changed, rest))) = inr (spec_changes.statement_of c, middle, changed-there ts c middle changed, rest)
 
 command-back : (ts : Tokens) (b : Command) (us : Tokens) → grammar.statement_command ts b us → by_word_line command.Statement (lines.◌>>=◌ changed_line changing_line) ts b us
-unfolding grammar.statement_command grammar.statement query.select
+unfolding grammar.statement_command query.select
 command-back ts b us (inl (s, end, inl (q, rest, (u, middle, select, spelt), same), given)) =
     inl (u, middle, select, (q, rest, spelt, (given.0 ∙ ap command.Statement same.0, given.1 ∙ same.1)))
-command-back ts b us (inl (s, end, inr (inl (i, rest, (u, middle, insert, spelt), same)), given)) =
+command-back ts b us (inl (s, end, inr (i, rest, (u, middle, insert, spelt), same), given)) =
     inr (inl (u, middle, insert, (i, rest, spelt, (given.0 ∙ ap command.Statement same.0, given.1 ∙ same.1))))
-command-back ts b us (inl (s, end, inr (inr (f, middle, changed, spelt)), given)) =
+command-back ts b us (inr (f, middle, changed, rest)) =
     let read = changed-back ts f middle changed in
-    inr (inr (read.0, middle, read.2, inr (s, end, subst (λ g. grammar.searched g middle s end) read.1 spelt, given)))
-command-back ts b us (inr (p, end, (f, middle, changed, spelt), given)) =
-    let read = changed-back ts f middle changed in
-    inr (inr (read.0, middle, read.2, inl (p, end, subst (λ g. grammar.positioned g middle p end) read.1 spelt, given)))
+    inr (inr (read.0, middle, read.2, subst (λ g. changing_of g middle b us) read.1 rest))
 
 -- behind a statement, also where it ends sooner
 abbrev pub statement_tail : Barred
@@ -152,34 +152,9 @@ agrees-statement = agrees-read (same-by-word (λ s. s) (spec_changes.change >>= 
     (agrees-same statement-there statement-back (agrees-by_word (λ s. s)
     (agrees-wider statement_tail refl (agrees-fewer 1 (omega arith) (agrees-bind agrees-change (λ c. agrees-searched c) refl)))))
 
--- WHERE CURRENT OF is never a condition
-searched-apart : (c : Change) (ts : Tokens) (b : Command) (us : Tokens) → (lines.◌<$>◌ command.Statement (grammar.searched (spec_changes.statement_of c))) ts b us → clear returning_tail us ≡ true → spec_changes.sees_position ts ≡ false
-unfolding grammar.searched is_reserved
-searched-apart c ts b us (s, end, (filter, middle, conditioned, (given, last, returned, made)), same) clear_so = by (spec_changes.sees_position ts) refl conditioned
-  where
-    free : clear returning_tail last ≡ true
-    free = subst (λ vs. clear returning_tail vs ≡ true) (same.1 ∙ made.1) clear_so
-
-    returns : begins (Head.word (codes "returning") ∷ Head.others returning_tail ∷ []) middle ≡ true
-    returns = let all : Agrees (Unit {0}) 0 spec_outputs.returning grammar.returning 0 (Head.word (codes "returning") ∷ Head.others returning_tail ∷ []) returning_tail = agrees-returning returning_tail refl refl in
-        all.starts middle given last returned free
-
-    by : (found : Bool) → spec_changes.sees_position ts ≡ found → (maybe (lines.◌>>◌ (a_word (codes "where")) expression.expression)) ts filter middle → found ≡ false
-    by false e spelt = refl
-    by true e (inr none) =
-        let p = position-seen ts e in
-        let never = subst (λ vs. begins (Head.word (codes "returning") ∷ Head.others returning_tail ∷ []) vs ≡ true) (none.1 ∙ p.same) returns in cc
-    by true e (inl (x, rest, (u, behind_where, where_word, spelt), is)) =
-        let p = position-seen ts e in
-        let here : behind_where ≡ token.Word (codes "current") ∷ token.Word (codes "of") ∷ p.rest = ap (drop 1) (sym where_word ∙ p.same) in
-        let stops = subst (λ vs. begins (Head.word (codes "returning") ∷ Head.others returning_tail ∷ []) vs ≡ true) is.1 returns in
-        let read = (agrees-expression {S = Unit {0}} {n = length behind_where}).complete behind_where x rest (omega arith) spelt (begins-clear operators (Head.word (codes "returning") ∷ Head.others returning_tail ∷ []) rest refl stops) in
-        let left : rest ≡ token.Word (codes "of") ∷ p.rest = same_rest _ _ _ _ (sym (current-column p.rest) ∙ (sym (ap spec_expression.expression here) ∙ read)) in
-        let never = subst (λ vs. begins (Head.word (codes "returning") ∷ Head.others returning_tail ∷ []) vs ≡ true) left stops in cc
-
 agrees-changing : {n : ℕ} (c : Change) → Agrees (Unit {0}) n (spec_changes.change_command c) (changing_line c) 0 (Head.word (codes "where") ∷ Head.word (codes "where") ∷ Head.others where_tail ∷ []) returning_tail
 unfolding spec_changes.change_command is_reserved
-agrees-changing c = agrees-looking (sees-position c) (searched-apart c)
+agrees-changing c = agrees-looking-unless current-there sees-current (sees-position c)
     (agrees-bind (agrees-positioned c) (λ p. agrees-pure (command.Positioned p) returning_tail) refl)
     (agrees-bind (agrees-searched c) (λ s. agrees-pure (command.Statement s) returning_tail) refl)
 

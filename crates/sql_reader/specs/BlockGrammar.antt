@@ -5,7 +5,6 @@ use Rattle.q_base.specs.declared.settings.SetValue.TheVariants as value
 use Rattle.sql_tokens.specs.declared.token.Sign.TheVariants as sign
 use Rattle.sql_tree.specs.declared.command.Command.{Command}
 use Rattle.sql_tree.specs.declared.command.Command.TheVariants as command
-use Rattle.sql_tree.specs.declared.expr.Numeral.{Numeral}
 use Rattle.sql_expr.specs.Lines.{Text, Line, ◌>>=◌, ◌>>◌, ◌<$>◌, ◌or◌, gives, name, string, word, key, mark, ahead, unless, before, maybe, list}
 use Rattle.sql_reader.specs.QueryGrammar.{numeral}
 

@@ -6,7 +6,7 @@ use Rattle.sql_tree.specs.declared.command.Command.TheVariants as command
 use Rattle.sql_tree.specs.declared.rows.{Assignment.Assignment, InsertTree.InsertTree, NewValue.NewValue}
 use Rattle.sql_tree.specs.declared.rows.NewValue.TheVariants as value_of
 use Rattle.sql_tree.specs.declared.statement.Statement.TheVariants.{Select, Insert, Update, Delete}
-use Rattle.sql_expr.specs.Lines.{Line, ◌>>=◌, ◌>>◌, ◌<$>◌, ◌or◌, gives, name, key, mark, maybe, any, list, parenthesized}
+use Rattle.sql_expr.specs.Lines.{Line, ◌>>=◌, ◌>>◌, ◌<$>◌, ◌or◌, gives, name, key, mark, unless, maybe, any, list, parenthesized}
 use Rattle.sql_expr.specs.Grammar.{expression}
 use Rattle.sql_reader.specs.QueryGrammar.{relation, parenthesized_names, output, select}
 
@@ -52,24 +52,31 @@ deleted = do
   table ← relation
   gives (λ filter given. Delete (record { table = table; condition = filter; returning = given }))
 
+unfoldable pub changed : Line Change
+changed = key "update" >> updated or key "delete" >> deleted
+
 -- behind either
 unfoldable pub searched : Change → Line Statement
 searched change = do filter ← maybe (key "where" >> expression); given ← returning; gives (change filter given)
 
+abbrev pub current_of : Line (Unit {0})
+current_of = key "where" >> key "current" >> key "of"
+
+-- behind either, for the row of a cursor
 unfoldable pub positioned : Change → Line PositionedTree
 positioned change = do
-  key "where"
-  key "current"
-  key "of"
+  current_of
   cursor ← name
   given ← returning
   gives (record { statement = change None given; cursor = cursor })
 
-unfoldable pub changed : Line Change
-changed = key "update" >> updated or key "delete" >> deleted
+abbrev pub plain : Line Statement
+plain = Select <$> select or Insert <$> (key "insert" >> insertion)
 
 unfoldable pub statement : Line Statement
-statement = Select <$> select or Insert <$> (key "insert" >> insertion) or (changed >>= searched)
+statement = plain or (changed >>= searched)
 
+-- a change is positioned exactly where WHERE CURRENT OF comes next
 unfoldable pub statement_command : Line Command
-statement_command = command.Statement <$> statement or command.Positioned <$> (changed >>= positioned)
+statement_command = command.Statement <$> plain
+    or (do change ← changed; command.Positioned <$> positioned change or unless current_of >> command.Statement <$> searched change)
