@@ -229,10 +229,10 @@ tests-sign s = record {
 
 -- ---- choices by the next token
 
-min-left : (a b : ℕ) → min a b ≤ a
+pub min-left : (a b : ℕ) → min a b ≤ a
 min-left a b = grind (arith, common_steps)
 
-min-right : (a b : ℕ) → min a b ≤ b
+pub min-right : (a b : ℕ) → min a b ≤ b
 min-right a b = grind (arith, common_steps)
 
 -- Where the token comes next it is read, and what the one line spells comes behind it; else the other line is spelt.

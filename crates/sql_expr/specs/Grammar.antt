@@ -47,7 +47,7 @@ chain operator operand = do
   others ← many (do op ← operator; right ← operand; gives (op, right))
   gives (grouped first others)
 
--- ---- the lines over the expressions that are nested in them
+-- ---- the lines over the expressions that are nested in them: whole ones, those behind NOT, and those behind a minus
 module _ (nested : Level → Line Expr) where
   abbrev pub call : Line Expr
   call = do

@@ -48,18 +48,21 @@ string ts text us = ts ≡ token.Text text ∷ us
 abbrev pub parameter : Line Text
 parameter ts digits us = ts ≡ token.Param digits ∷ us
 
--- ---- no token, or nothing at all
+-- ---- no token
 
+-- nothing is spelt so
 abbrev pub nowhere : {A : Type 0} → Line A
 nowhere ts a us = ⊥
 
+-- the value alone
 abbrev pub gives : {A : Type 0} → A → Line A
 gives value ts a us = (a ≡ value) × (us ≡ ts)
 
--- where P begins, and where it doesn't
+-- `(before P)`: where P comes next
 abbrev pub ahead : {A : Type 0} → Line A → Line (Unit {0})
 ahead {A = A} P ts u us = (us ≡ ts) × ((a : A) × (vs : Tokens) × P ts a vs)
 
+-- `(not before P)`: where it doesn't
 abbrev pub unless : {A : Type 0} → Line A → Line (Unit {0})
 unless {A = A} P ts u us = (us ≡ ts) × ((a : A) (vs : Tokens) → ¬ P ts a vs)
 
@@ -82,17 +85,19 @@ infixr 9 ◌or◌
 abbrev pub ◌or◌ : {A : Type 0} → Line A → Line A → Line A
 (P or Q) ts a us = P ts a us ⊎ Q ts a us
 
--- `[P]`, of a list too, and of a keyword
+-- `[P]`
 abbrev pub maybe : {A : Type 0} → Line A → Line (Option A)
 maybe P = Some <$> P or gives None
 
+-- `[P]` of a list, which is empty where it is left out
 abbrev pub any : {A : Type 0} → Line (List A) → Line (List A)
 any P = P or gives []
 
+-- `[KEYWORD]`, and whether it is written
 abbrev pub said : String → Line Bool
 said w = key w >> gives true or gives false
 
--- `[KEYWORD]` where the word might be a name too: it is the keyword exactly where P follows
+-- `[KEYWORD before P]`: the keyword exactly where P follows it, for a word that may be a name too
 abbrev pub before : {A : Type 0} → String → Line A → Line (Unit {0})
 before w P = key w >> ahead P or unless (key w >> P)
 

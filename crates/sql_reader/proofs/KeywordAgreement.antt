@@ -10,7 +10,7 @@ use Rattle.sql_expr.specs.Lines.{Line, gives, ahead, unless, word as a_word, nam
 use Rattle.sql_expr.specs.Lines as lines
 use Rattle.sql_reader_session.specs.Keywords.{eat_either}
 use Rattle.sql_expr.proofs.Heads.{Barred, Head, clear, begins, all_avoid, clear-begins, begins-left, begins-right, and-left, and-right}
-use Rattle.sql_expr.proofs.Agreement.{Agrees, tests-word, word-seen, sees-word, eaten, nothing, bar_word, bind_some, same_value, same_rest, same_read, read_then, agrees-test, agrees-same, agrees-fewer}
+use Rattle.sql_expr.proofs.Agreement.{Agrees, min-left, min-right, tests-word, word-seen, sees-word, eaten, nothing, bar_word, bind_some, same_value, same_rest, same_read, read_then, agrees-test, agrees-same, agrees-fewer}
 use Rattle.sql_expr.proofs.TokenKinds.{stands-name}
 
 -- `[P] Q` is `P Q | Q`
@@ -118,14 +118,6 @@ agrees-anything all = record {
   starts = λ ts a us spelt c. begins-anything ts;
   takes = λ ts a us spelt. let more = all.takes ts a us spelt in omega arith;
 }
-
--- ---- choices
-
-min-left : (a b : ℕ) → min a b ≤ a
-min-left a b = grind (arith, common_steps)
-
-min-right : (a b : ℕ) → min a b ≤ b
-min-right a b = grind (arith, common_steps)
 
 -- ---- a word that is the keyword by what stands behind it
 

@@ -21,8 +21,8 @@ use Rattle.sql_reader.proofs.MotionAgreement.{agrees-count}
 use Rattle.sql_reader.proofs.StatementAgreement.{statement_tail}
 use Rattle.sql_reader.proofs.PreparedAgreement.{agrees-execute_tree, agrees-prepare_tree}
 
-abbrev line_of : Text → Line (Unit {0})
-line_of letters ts u us = ts ≡ token.Backslash letters ∷ us
+abbrev backslash_of : Text → Line (Unit {0})
+backslash_of letters ts u us = ts ≡ token.Backslash letters ∷ us
 
 -- the line behind the backslash and its letters
 abbrev pub behind_letters : Text → Line Command
@@ -72,11 +72,11 @@ module _ (n : ℕ) where
         (pick letters (codes "sync") _ _ ts a us e)) (pick letters (codes "end") _ _ ts a us e)) (pick letters (codes "run") _ _ ts a us e)) (pick letters (codes "bind") _ _ ts a us e))
         (pick letters (codes "parse") _ _ ts a us e)) (pick letters (codes "cursors") _ _ ts a us e)) (pick letters (codes "prepared") _ _ ts a us read)
       where
-        at : {p : Parser Command} {P : Line Command} (w : Text) → Behind p P → (letters ≡ w) × (p ts ≡ Some (a, us)) → lines.◌>>◌ (line_of w) P (token.Backslash letters ∷ ts) a us
+        at : {p : Parser Command} {P : Line Command} (w : Text) → Behind p P → (letters ≡ w) × (p ts ≡ Some (a, us)) → lines.◌>>◌ (backslash_of w) P (token.Backslash letters ∷ ts) a us
         at w agrees x = (tt, ts, ap (λ l. token.Backslash l ∷ ts) x.0, agrees.sound tt ts a us x.1)
 
     -- what stands behind the letters that are spelt
-    rest-of : (P : Line Command) (w : Text) (ts : Tokens) (a : Command) (us : Tokens) → lines.◌>>◌ (line_of w) P (token.Backslash letters ∷ ts) a us → (letters ≡ w) × P ts a us
+    rest-of : (P : Line Command) (w : Text) (ts : Tokens) (a : Command) (us : Tokens) → lines.◌>>◌ (backslash_of w) P (token.Backslash letters ∷ ts) a us → (letters ≡ w) × P ts a us
     rest-of P w ts a us (u, middle, e, rest) =
         let same : letters ≡ w = cc in
         let moved : middle ≡ ts = cc in
@@ -86,7 +86,7 @@ module _ (n : ℕ) where
     unfolding spec.backslash_line grammar.backslash_line
     line-complete ts a us within spelt c = by spelt
       where
-        at : {p : Parser Command} {P : Line Command} (w : Text) → spec.backslash_line w ≡ p → Behind p P → lines.◌>>◌ (line_of w) P (token.Backslash letters ∷ ts) a us → spec.backslash_line letters ts ≡ Some (a, us)
+        at : {p : Parser Command} {P : Line Command} (w : Text) → spec.backslash_line w ≡ p → Behind p P → lines.◌>>◌ (backslash_of w) P (token.Backslash letters ∷ ts) a us → spec.backslash_line letters ts ≡ Some (a, us)
         at {P = P} w same agrees here =
             let rest = rest-of P w ts a us here in
             ap (λ l. spec.backslash_line l ts) rest.0 ∙ (ap (λ p. p ts) same ∙ agrees.complete ts a us within rest.1 c)
@@ -104,7 +104,7 @@ module _ (n : ℕ) where
     unfolding grammar.backslash_line
     line-takes ts a us spelt = by spelt
       where
-        at : {p : Parser Command} {P : Line Command} (w : Text) → Behind p P → lines.◌>>◌ (line_of w) P (token.Backslash letters ∷ ts) a us → 0 + length us ≤ length ts
+        at : {p : Parser Command} {P : Line Command} (w : Text) → Behind p P → lines.◌>>◌ (backslash_of w) P (token.Backslash letters ∷ ts) a us → 0 + length us ≤ length ts
         at {P = P} w agrees here = agrees.takes ts a us (rest-of P w ts a us here).1
 
         by : behind_letters letters ts a us → 0 + length us ≤ length ts

@@ -63,14 +63,14 @@ known-number digits a value small =
     ap (λ b. cond b (Some (decimal_after 0 digits)) None) within ∙ ap Some same
 
 module _ {n : ℕ} where
-  pub agrees-count : Agrees (Unit {0}) n numbers.count grammar.count 1 (Head.number ∷ []) nothing
+  pub agrees-count : Agrees (Unit {0}) n numbers.count grammar.unsigned_integer 1 (Head.number ∷ []) nothing
   unfolding numbers.count
   agrees-count = agrees-same there back (agrees-bind (agrees-one stands-number) (λ digits. agrees-required (number_of digits) nothing) refl)
     where
-      there : (ts : Tokens) (a : ℕ) (us : Tokens) → lines.◌>>=◌ number (λ digits. exactly (number_of digits)) ts a us → grammar.count ts a us
+      there : (ts : Tokens) (a : ℕ) (us : Tokens) → lines.◌>>=◌ number (λ digits. exactly (number_of digits)) ts a us → grammar.unsigned_integer ts a us
       there ts a us (digits, middle, spelt, (found, same)) = let known = number-known digits a found in (digits, subst (λ vs. number ts digits vs) (sym same) spelt, known.0, known.1)
 
-      back : (ts : Tokens) (a : ℕ) (us : Tokens) → grammar.count ts a us → lines.◌>>=◌ number (λ digits. exactly (number_of digits)) ts a us
+      back : (ts : Tokens) (a : ℕ) (us : Tokens) → grammar.unsigned_integer ts a us → lines.◌>>=◌ number (λ digits. exactly (number_of digits)) ts a us
       back ts a us (digits, spelt, value, small) = (digits, us, spelt, (known-number digits a value small, refl))
 
   pub agrees-integer : Agrees (Unit {0}) n numbers.integer grammar.integer 1 numeral_heads nothing
@@ -80,11 +80,11 @@ module _ {n : ℕ} where
       signed_count : Bool → Parser ℤ
       signed_count negative = numbers.count >>= (λ k. pure (signed negative k))
 
-      behind_sign : (negative : Bool) → Agrees (Unit {0}) n (signed_count negative) (lines.◌>>=◌ grammar.count (λ k. gives (signed negative k))) 1 (Head.number ∷ []) nothing
+      behind_sign : (negative : Bool) → Agrees (Unit {0}) n (signed_count negative) (lines.◌>>=◌ grammar.unsigned_integer (λ k. gives (signed negative k))) 1 (Head.number ∷ []) nothing
       behind_sign negative = agrees-bind agrees-count (λ k. agrees-pure (signed negative k) nothing) refl
 
       ordered : Line ℤ
-      ordered = lines.◌or◌ (lines.◌>>◌ (mark sign.Minus) (lines.◌>>=◌ grammar.count (λ k. gives (signed true k)))) (lines.◌>>=◌ grammar.count (λ k. gives (signed false k)))
+      ordered = lines.◌or◌ (lines.◌>>◌ (mark sign.Minus) (lines.◌>>=◌ grammar.unsigned_integer (λ k. gives (signed true k)))) (lines.◌>>=◌ grammar.unsigned_integer (λ k. gives (signed false k)))
 
       there : (ts : Tokens) (a : ℤ) (us : Tokens) → ordered ts a us → grammar.integer ts a us
       there ts a us (inl negative) = inr negative
@@ -165,14 +165,6 @@ pick w v found d rest e = by (bytes_eq w v) refl e
     by : (b : Bool) → bytes_eq w v ≡ b → cond b (Some found) rest ≡ Some d → ((w ≡ v) × (d ≡ found)) ⊎ (rest ≡ Some d)
     by true q e = let same : d ≡ found = cc in inl ((bytes_eq-Decides w v).0 q, same)
     by false q e = inr e
-
-any-here : (a b : Bool) → a ≡ true → (a || b) ≡ true
-any-here true b e = refl
-any-here false b e = cc
-
-any-there : (a b : Bool) → b ≡ true → (a || b) ≡ true
-any-there true b e = refl
-any-there false b e = e
 
 stands-direction : Stands direction_of (one direction_of) direction_heads bar_directions
 stands-direction = record { shows = shows; none = none; there = λ ts a us spelt. spelt; back = λ ts a us spelt. spelt }

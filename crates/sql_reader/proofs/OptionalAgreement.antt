@@ -10,7 +10,7 @@ use Rattle.sql_expr.specs.Lines.{Line, gives, unless, many, maybe, any, word as 
 use Rattle.sql_expr.specs.Lines as lines
 use Rattle.sql_reader_query.specs.Lists.{looking}
 use Rattle.sql_expr.proofs.Heads.{Barred, Head, clear, begins, all_avoid, begins-clear, clear-begins, begins-left, begins-right}
-use Rattle.sql_expr.proofs.Agreement.{Agrees, Stands, bind_some, bar_word, same_value, same_rest, same_read, read_then, agrees-pure, agrees-bind, agrees-same, agrees-wider, agrees-fewer, agrees-word, agrees-taken}
+use Rattle.sql_expr.proofs.Agreement.{Agrees, min-left, min-right, Stands, bind_some, bar_word, same_value, same_rest, same_read, read_then, agrees-pure, agrees-bind, agrees-same, agrees-wider, agrees-fewer, agrees-word, agrees-taken}
 
 -- what is barred, and these words and signs
 abbrev pub also : List Text → List Sign → Barred → Barred
@@ -30,12 +30,6 @@ agrees-read same all = record {
 
 min-zero : (k : ℕ) → 0 ≤ min k 0
 min-zero k = grind (arith, common_steps)
-
-min-first : (a b : ℕ) → min a b ≤ a
-min-first a b = grind (arith, common_steps)
-
-min-second : (a b : ℕ) → min a b ≤ b
-min-second a b = grind (arith, common_steps)
 
 -- a word and what stands behind it, or else a value of its own
 pub agrees-optional : {S : Type 0} {n : ℕ} {A : Type 0} {p : Parser A} {P : Line A} {k : ℕ} {ahead : List Head} {stop : Barred} (w : Text) (value : A) (tail : Barred)
@@ -94,8 +88,8 @@ agrees-looking {S = S} {B = B} {sees = sees} {p = p} {q = q} {P = P} {Q = Q} {k 
       (λ right. begins-right ahead heads ts (not_so.starts ts b us right c))
       spelt;
   takes = λ ts b us spelt. ⊎_elim
-      (λ left. let some = found_so.takes ts b us left in let least = min-first k m in omega arith)
-      (λ right. let some = not_so.takes ts b us right in let least = min-second k m in omega arith)
+      (λ left. let some = found_so.takes ts b us left in let least = min-left k m in omega arith)
+      (λ right. let some = not_so.takes ts b us right in let least = min-right k m in omega arith)
       spelt;
 }
   where
@@ -120,8 +114,8 @@ agrees-looking-unless {S = S} {A = A} {B = B} {sees = sees} {L = L} {p = p} {q =
       (λ right. begins-right inner heads ts (not_so.starts ts b us (subst (λ vs. Q vs b us) right.2.0 right.3) c))
       spelt;
   takes = λ ts b us spelt. ⊎_elim
-      (λ left. let some = found_so.takes ts b us left in let least = min-first k m in omega arith)
-      (λ right. let some = not_so.takes ts b us (subst (λ vs. Q vs b us) right.2.0 right.3) in let least = min-second k m in omega arith)
+      (λ left. let some = found_so.takes ts b us left in let least = min-left k m in omega arith)
+      (λ right. let some = not_so.takes ts b us (subst (λ vs. Q vs b us) right.2.0 right.3) in let least = min-right k m in omega arith)
       spelt;
 }
   where
@@ -164,9 +158,6 @@ module _ {S : Type 0} {n : ℕ} {A : Type 0} {next certain : Parser (Option A)} 
     (last : (found : List A) (ts : Tokens) → loop zero found ts ≡ Some (found, ts))
     (turn : (turns : ℕ) (found : List A) (ts : Tokens) → loop (suc turns) found ts ≡ and_then (next ts) (λ o. goes_on o (λ a. loop turns (found ++ a ∷ [])) found))
     (each : Agrees S n certain (lines.◌<$>◌ Some P) 1 heads stop) (either : Agrees S n next (maybe P) 0 some bar) (less : Less certain next) where
-  onward : ℕ → List A → Option A → Parser (List A)
-  onward turns found o = goes_on o (λ a. loop turns (found ++ a ∷ [])) found
-
   many-sound : S → (turns : ℕ) (found : List A) (ts : Tokens) (all : List A) (us : Tokens) → loop turns found ts ≡ Some (all, us) → Found P found ts all us
   many-sound s zero found ts all us read =
       let e = sym (last found ts) ∙ read in

@@ -56,9 +56,6 @@ module _ {n : ℕ} where
 
 -- ---- no expression begins with `name . *`
 
-fails : {A B : Type 0} (p : Parser A) (f : A → Parser B) (ts : Tokens) → p ts ≡ None → (p >>= f) ts ≡ None
-fails p f ts e = ap (λ o. and_then o f) e
-
 untaken : {B : Type 0} (sees : Tokens → Bool) (f : Bool → Parser B) (ts : Tokens) → sees ts ≡ false → f false ts ≡ None → (eaten sees >>= f) ts ≡ None
 untaken sees f ts e k = ap (λ x. f x (behind x ts)) e ∙ k
 

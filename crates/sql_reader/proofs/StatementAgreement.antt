@@ -1,31 +1,25 @@
 -- Statements, and the commands that are statements, are read exactly where they are spelt.
-use Rattle.std.proofs.Common.{◌≡◌, inl, inr, ℕ, Bool, true, false, cond, ◌&&◌, [], ◌∷◌, length, drop, Option, Some, None, codes, refl, sym, ap, subst, ◌∙◌, arith}
+use Rattle.std.proofs.Common.{◌≡◌, inl, inr, ℕ, Bool, true, false, cond, ◌&&◌, [], ◌∷◌, drop, Option, Some, None, codes, refl, sym, ap, subst, ◌∙◌, arith}
 use Rattle.sql_tokens.specs.declared.token.Token.TheVariants as token
 use Rattle.sql_tree.specs.declared.command.Command.{Command}
 use Rattle.sql_tree.specs.declared.command.Command.TheVariants as command
-use Rattle.sql_tree.specs.declared.expr.Expr.TheVariants as e
 use Rattle.sql_tree.specs.declared.statement.Statement.{Statement}
 use Rattle.sql_tree.specs.declared.statement.Statement.TheVariants.{Select, Insert}
 use Rattle.sql_reader_query.specs.declared.changes.Change.{Change}
-use Rattle.sql_expr.specs.Reading.{Tokens, Outcome, Parser, and_then, ◌>>=◌, ◌<$>◌, pure, taken, eat_word, sees_word, sees_sign}
-use Rattle.sql_expr.specs.Expressions as spec_expression
+use Rattle.sql_expr.specs.Reading.{Tokens, Outcome, Parser, and_then, ◌>>=◌, ◌<$>◌, pure, eat_word, sees_word}
 use Rattle.sql_expr.specs.Names.{is_reserved}
 use Rattle.sql_expr.specs.Lines.{Line, gives, word as a_word, maybe, unless}
 use Rattle.sql_expr.specs.Lines as lines
-use Rattle.sql_expr.specs.Grammar as expression
 use Rattle.sql_reader_query.specs.Changes as spec_changes
-use Rattle.sql_reader_query.specs.Lists.{looking}
-use Rattle.sql_reader_query.specs.Outputs as spec_outputs
 use Rattle.sql_reader_query.specs.Query as spec_query
 use Rattle.sql_reader_query.specs.Statements as spec
 use Rattle.sql_reader.specs.ChangeGrammar as grammar
 use Rattle.sql_reader.specs.QueryGrammar as query
-use Rattle.sql_expr.proofs.Heads.{Barred, Head, clear, begins, begins-clear, and-left, and-right}
-use Rattle.sql_expr.proofs.Agreement.{Agrees, same_rest, word-seen, agrees-pure, agrees-bind, agrees-same, agrees-wider, agrees-fewer, agrees-word}
-use Rattle.sql_expr.proofs.ExpressionAgreement.{agrees-expression, operators}
+use Rattle.sql_expr.proofs.Heads.{Barred, Head, and-left, and-right}
+use Rattle.sql_expr.proofs.Agreement.{Agrees, word-seen, agrees-pure, agrees-bind, agrees-same, agrees-wider, agrees-fewer, agrees-word}
 use Rattle.sql_reader.proofs.OptionalAgreement.{also, agrees-read, agrees-looking-unless}
 use Rattle.sql_reader.proofs.QueryAgreement.{select_tail, agrees-selection}
-use Rattle.sql_reader.proofs.ChangeAgreement.{changed_line, changed-there, changed-back, where_tail, returning_tail, agrees-returning, agrees-insertion, agrees-change, agrees-searched, agrees-positioned}
+use Rattle.sql_reader.proofs.ChangeAgreement.{changed_line, changed-there, changed-back, where_tail, returning_tail, agrees-insertion, agrees-change, agrees-searched, agrees-positioned}
 
 -- ---- WHERE CURRENT OF
 
@@ -109,11 +103,6 @@ statement-back ts s us (inr (f, middle, changed, rest)) =
 -- ---- statement_command
 
 -- behind a change
-abbrev changing : Change → Parser Command
-changing c = do
-  found ← looking spec_changes.sees_position
-  cond found (command.Positioned <$> spec_changes.positioned c) (command.Statement <$> spec_changes.searched c)
-
 abbrev changing_of : grammar.Change → Line Command
 changing_of f = lines.◌or◌ (lines.◌<$>◌ command.Positioned (grammar.positioned f)) (lines.◌>>◌ (unless grammar.current_of) (lines.◌<$>◌ command.Statement (grammar.searched f)))
 

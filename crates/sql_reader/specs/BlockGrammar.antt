@@ -14,9 +14,11 @@ work = maybe (key "work" or key "transaction")
 abbrev pub savepoint_name : Line Text
 savepoint_name = before "savepoint" name >> name
 
+-- behind BEGIN
 unfoldable pub begin : Line Command
 begin = work >> gives command.Begin
 
+-- behind START
 unfoldable pub start : Line Command
 start = key "transaction" >> gives command.StartTransaction
 
@@ -28,6 +30,7 @@ commit = work >> gives command.Commit
 unfoldable pub rollback : Line Command
 rollback = work >> gives command.Rollback or (do work; key "to"; command.RollbackTo <$> savepoint_name)
 
+-- behind ABORT
 unfoldable pub abort : Line Command
 abort = work >> gives command.Rollback
 

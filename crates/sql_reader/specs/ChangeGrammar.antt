@@ -55,14 +55,14 @@ deleted = do
 unfoldable pub changed : Line Change
 changed = key "update" >> updated or key "delete" >> deleted
 
--- behind either
+-- behind a change
 unfoldable pub searched : Change → Line Statement
 searched change = do filter ← maybe (key "where" >> expression); given ← returning; gives (change filter given)
 
 abbrev pub current_of : Line (Unit {0})
 current_of = key "where" >> key "current" >> key "of"
 
--- behind either, for the row of a cursor
+-- behind a change, of the row at which a cursor stands
 unfoldable pub positioned : Change → Line PositionedTree
 positioned change = do
   current_of

@@ -1,4 +1,4 @@
--- The grammar of commands: which tokens spell one. A command of SQL begins with its leading word, a line with its backslash.
+-- The grammar of commands: which tokens spell one. One of SQL begins with its leading word, others with a backslash.
 use Rattle.std.specs.Prelude.{◌≡◌, ◌≤◌, ◌<◌, ◌⊎◌, List, [], ◌∷◌, Result, Ok, Err, codes}
 use Prim.Native.String.{String}
 use Rattle.q_base.specs.declared.code.Code.TheVariants.{StackDepthExceeded, SyntaxError}
@@ -12,7 +12,7 @@ use Rattle.sql_expr.specs.Load.{load_of}
 use Rattle.sql_reader.specs.BlockGrammar.{savepoint_name, begin, start, commit, rollback, abort, set}
 use Rattle.sql_reader.specs.CatalogGrammar.{create, drop_object, truncate, analyze, alter}
 use Rattle.sql_reader.specs.ChangeGrammar.{statement_command}
-use Rattle.sql_reader.specs.CursorGrammar.{count, declare, fetch_tree, close}
+use Rattle.sql_reader.specs.CursorGrammar.{unsigned_integer, declare, fetch_tree, close}
 use Rattle.sql_reader.specs.PreparedGrammar.{prepare_tree, execute_tree, explain, deallocate, discard}
 
 abbrev pub prepared_command : Line Command
@@ -36,24 +36,24 @@ catalog_command = key "create" >> create or key "drop" >> drop_object or key "tr
     or key "analyze" >> analyze or key "alter" >> alter
 
 -- the backslash with the letters, as they are written
-abbrev pub line : String → Line (Unit {0})
-line letters ts u us = ts ≡ token.Backslash (codes letters) ∷ us
+abbrev pub backslash : String → Line (Unit {0})
+backslash letters ts u us = ts ≡ token.Backslash (codes letters) ∷ us
 
--- name execute_tree, where the first is a portal
+-- the name is that of a portal, here and below
 unfoldable pub bind_tree : Line BindTree
 bind_tree = do portal ← name; statement ← execute_tree; gives (record { portal = portal; execute = statement })
 
 unfoldable pub run_tree : Line RunTree
-run_tree = do portal ← name; rows ← count; gives (record { portal = portal; count = rows })
+run_tree = do portal ← name; rows ← unsigned_integer; gives (record { portal = portal; count = rows })
 
 unfoldable pub backslash_line : Line Command
-backslash_line = line "prepared" >> gives command_of.ShowPrepared
-    or line "cursors" >> gives command_of.ShowCursors
-    or line "sync" >> gives command_of.Sync
-    or line "parse" >> command_of.Parse <$> prepare_tree
-    or line "bind" >> command_of.Bind <$> bind_tree
-    or line "run" >> command_of.Run <$> run_tree
-    or line "end" >> command_of.EndPortal <$> name
+backslash_line = backslash "prepared" >> gives command_of.ShowPrepared
+    or backslash "cursors" >> gives command_of.ShowCursors
+    or backslash "sync" >> gives command_of.Sync
+    or backslash "parse" >> command_of.Parse <$> prepare_tree
+    or backslash "bind" >> command_of.Bind <$> bind_tree
+    or backslash "run" >> command_of.Run <$> run_tree
+    or backslash "end" >> command_of.EndPortal <$> name
 
 -- ---- commands
 

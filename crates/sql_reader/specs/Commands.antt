@@ -1,4 +1,4 @@
--- Commands: which tokens spell one, and its tree.
+-- Commands as they are read.
 use Rattle.std.specs.Prelude.{nat_lt, List, [], ◌∷◌, drop, Option, Some, None, Result, Ok, Err, if◌then◌else◌}
 use Rattle.q_base.specs.declared.code.Code.TheVariants.{StackDepthExceeded, SyntaxError}
 use Rattle.q_base.specs.declared.errors.SqlError.{SqlError}
@@ -74,7 +74,7 @@ abbrev pub whole : {A : Type 0} → Outcome A → Option A
 whole (Some (a, [])) = Some a
 whole _ = None
 
--- the command that the tokens spell, if they spell one
+-- the command that the tokens are read as, where no token is left
 unfoldable pub command_of : List Token → Option Command
 command_of tokens = whole (command tokens)
 

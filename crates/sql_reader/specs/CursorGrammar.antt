@@ -15,8 +15,8 @@ decimal [] = 0
 decimal (d ∷ digits) = (d - 48) * 10 ^ length digits + decimal digits
 
 -- at most 2147483647
-abbrev pub count : Line ℕ
-count ts n us = (digits : Text) × number ts digits us × (n ≡ decimal digits) × (n ≤ 2147483647)
+abbrev pub unsigned_integer : Line ℕ
+unsigned_integer ts n us = (digits : Text) × number ts digits us × (n ≡ decimal digits) × (n ≤ 2147483647)
 
 abbrev no_options : CursorOptions
 no_options = record { scroll = false; no_scroll = false; insensitive = false; asensitive = false }
@@ -52,7 +52,7 @@ declare = do
   gives (command.Declare (record { name = cursor; options = options; hold = held; query = statement.Select query }))
 
 unfoldable pub integer : Line ℤ
-integer = pos <$> count or mark sign.Minus >> (λ n. neg_ℤ (pos n)) <$> count
+integer = pos <$> unsigned_integer or mark sign.Minus >> (λ n. neg_ℤ (pos n)) <$> unsigned_integer
 
 unfoldable pub motion : Line Motion
 motion = key "next" >> gives moves.Next or key "prior" >> gives moves.Prior

@@ -19,7 +19,7 @@ use Rattle.sql_tree.specs.declared.select.Join.TheVariants as join
 use Rattle.sql_tree.specs.declared.select.OutputItem.{OutputItem}
 use Rattle.sql_tree.specs.declared.select.OutputItem.TheVariants as output
 use Rattle.sql_tree.specs.declared.statement.Statement.TheVariants as statement
-use Rattle.sql_expr.specs.Reading.{Text}
+use Rattle.sql_expr.specs.Lines.{Text}
 use Rattle.sql_reader.specs.CommandGrammar.{Spells}
 
 -- the text spells tokens, and these the command

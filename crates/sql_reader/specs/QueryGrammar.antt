@@ -1,4 +1,4 @@
--- The grammar of names of relations and columns, and of queries.
+-- The grammar of names of relations and columns, and of queries. (`key` is one of ORDER BY, so a keyword is `keyword` here.)
 use Rattle.std.specs.Prelude.{Bool, true, false, List, Option, Some, None}
 use Rattle.sql_tokens.specs.declared.token.Sign.TheVariants as sign
 use Rattle.sql_tree.specs.declared.{expr.Numeral.Numeral, names.ColumnRef.ColumnRef, names.QName.QName}
