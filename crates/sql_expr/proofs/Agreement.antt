@@ -13,7 +13,7 @@ use Rattle.sql_tokens.specs.declared.token.Token.TheVariants as token
 use Rattle.sql_tokens.specs.declared.token.Sign.{Sign}
 use Rattle.sql_tokens.specs.contracts.token.Sign.{the_type}
 use Rattle.sql_expr.specs.Reading.{Text, Tokens, Outcome, Parser, and_then, ◌>>=◌, pure, refuse, taken, taken_first, required, behind, eat_word, eat_sign, expect_word, expect_sign, sees_word, sees_sign, same_sign}
-use Rattle.sql_expr.specs.Lines.{Line, nowhere, gives, unless, word as a_word, mark}
+use Rattle.sql_expr.specs.Lines.{Line, Takes, nowhere, gives, unless, word as a_word, mark}
 use Rattle.sql_expr.specs.Lines as lines
 use Rattle.sql_expr.proofs.Heads.{Barred, Head, bars, clear, is, begins, all_avoid, begins-clear, clear-begins, begins-left, begins-right, not-true}
 pub use Rattle.sql_expr.proofs.Leaving.{Parts, bind_some, same_rest}
@@ -126,13 +126,27 @@ agrees-fewer least within all = record {
 
 -- ---- single tokens
 
+-- the same tokens before it, the same token, the same tokens behind it
+pub beginning : {t : Token} {ts vs us : Tokens} → ts ≡ vs → Takes t ts us → Takes t vs us
+beginning {t = t} {us = us} same front = subst (λ xs. Takes t xs us) same front
+
+pub taking : {t r : Token} {ts us : Tokens} → Takes t ts us → t ≡ r → Takes r ts us
+taking {ts = ts} {us = us} front same = subst (λ x. Takes x ts us) same front
+
+pub ending : {t : Token} {ts us vs : Tokens} → Takes t ts us → us ≡ vs → Takes t ts vs
+ending {t = t} {ts = ts} front same = subst (λ xs. Takes t ts xs) same front
+
+-- one token behind another
+pub two-tokens : {t r : Token} {ts middle us : Tokens} → Takes t ts middle → Takes r middle us → ts ≡ t ∷ r ∷ us
+two-tokens {t = t} first second = first.tokens ∙ ap (λ vs. t ∷ vs) second.tokens
+
 same_token_word : (w v : Text) → bytes_eq v w ≡ true → token.Word v ≡ token.Word w
 same_token_word w v e = ap token.Word ((bytes_eq-Decides v w).0 e)
 
 -- the next token is the word, and no other
-pub word-seen : (w : Text) (ts : Tokens) → sees_word w ts ≡ true → ts ≡ token.Word w ∷ drop 1 ts
+pub word-seen : (w : Text) (ts : Tokens) → sees_word w ts ≡ true → Takes (token.Word w) ts (drop 1 ts)
 unfolding sees_word
-word-seen w (token.Word v ∷ ts) e = ap (λ t. t ∷ ts) (same_token_word w v e)
+word-seen w (token.Word v ∷ ts) e = record { tokens = ap (λ t. t ∷ ts) (same_token_word w v e) }
 word-seen w (token.Quoted v ∷ ts) e = cc
 word-seen w (token.Sign v ∷ ts) e = cc
 word-seen w (token.Number v ∷ ts) e = cc
@@ -160,9 +174,9 @@ sees-no-word w (token.Param v ∷ ts) c = refl
 sees-no-word w (token.Backslash v ∷ ts) c = refl
 sees-no-word w [] c = refl
 
-pub sign-seen : (s : Sign) (ts : Tokens) → sees_sign s ts ≡ true → ts ≡ token.Sign s ∷ drop 1 ts
+pub sign-seen : (s : Sign) (ts : Tokens) → sees_sign s ts ≡ true → Takes (token.Sign s) ts (drop 1 ts)
 unfolding sees_sign
-sign-seen s (token.Sign r ∷ ts) e = ap (λ x. token.Sign x ∷ ts) (same_true the_type tt r s e)
+sign-seen s (token.Sign r ∷ ts) e = record { tokens = ap (λ x. token.Sign x ∷ ts) (same_true the_type tt r s e) }
 sign-seen s (token.Word v ∷ ts) e = cc
 sign-seen s (token.Quoted v ∷ ts) e = cc
 sign-seen s (token.Number v ∷ ts) e = cc
@@ -207,10 +221,10 @@ pub tests-word : (w : Text) → Tests (sees_word w) (a_word w) (Head.word w) (ba
 tests-word w = record {
   seen = λ ts e. word-seen w ts e;
   known = λ ts u us spelt. (
-    ap (sees_word w) spelt ∙ sees-word w us,
-    sym (ap (drop 1) spelt),
-    (let same = ap length spelt in omega (arith, same)),
-    subst (λ vs. begins (Head.word w ∷ []) vs ≡ true) (sym spelt) (begins-one (Head.word w) (token.Word w) us ((bytes_eq-Decides w w).1 refl)),
+    ap (sees_word w) spelt.tokens ∙ sees-word w us,
+    sym (ap (drop 1) spelt.tokens),
+    (let same = ap length spelt.tokens in omega (arith, same)),
+    subst (λ vs. begins (Head.word w ∷ []) vs ≡ true) (sym spelt.tokens) (begins-one (Head.word w) (token.Word w) us ((bytes_eq-Decides w w).1 refl)),
   );
   none = λ ts c. sees-no-word w ts c;
 }
@@ -219,10 +233,10 @@ pub tests-sign : (s : Sign) → Tests (sees_sign s) (mark s) (Head.sign s) (bar_
 tests-sign s = record {
   seen = λ ts e. sign-seen s ts e;
   known = λ ts u us spelt. (
-    ap (sees_sign s) spelt ∙ sees-sign s us,
-    sym (ap (drop 1) spelt),
-    (let same = ap length spelt in omega (arith, same)),
-    subst (λ vs. begins (Head.sign s ∷ []) vs ≡ true) (sym spelt) (begins-one (Head.sign s) (token.Sign s) us (true_same the_type s s refl)),
+    ap (sees_sign s) spelt.tokens ∙ sees-sign s us,
+    sym (ap (drop 1) spelt.tokens),
+    (let same = ap length spelt.tokens in omega (arith, same)),
+    subst (λ vs. begins (Head.sign s ∷ []) vs ≡ true) (sym spelt.tokens) (begins-one (Head.sign s) (token.Sign s) us (true_same the_type s s refl)),
   );
   none = λ ts c. sees-no-sign s ts c;
 }
@@ -340,7 +354,7 @@ agrees-behind {p = p} {f = f} {k = k} {m = m} {inner = inner} {stop = stop} firs
 -- ---- a token that stands for a value
 
 abbrev pub one : {A : Type 0} → (Token → Option A) → Line A
-one value_of ts a us = (t : Token) × (ts ≡ t ∷ us) × (value_of t ≡ Some a)
+one value_of ts a us = (t : Token) × Takes t ts us × (value_of t ≡ Some a)
 
 abbrev pub stands_for : {A : Type 0} → (Token → Option A) → Tokens → Bool
 stands_for value_of [] = false
@@ -358,7 +372,7 @@ unfolding taken
 taken-some value_of t ts a e = ap (λ o. taken_first o t ts) e
 
 pub taken-one : {A : Type 0} (value_of : Token → Option A) (ts : Tokens) (a : A) (us : Tokens) → one value_of ts a us → taken value_of ts ≡ Some (Some a, us)
-taken-one value_of ts a us (t, e, v) = ap (taken value_of) e ∙ taken-some value_of t us a v
+taken-one value_of ts a us (t, e, v) = ap (taken value_of) e.tokens ∙ taken-some value_of t us a v
 
 pub taken-nothing : {A : Type 0} (value_of : Token → Option A) (ts : Tokens) → stands_for value_of ts ≡ false → taken value_of ts ≡ Some (None, ts)
 unfolding taken
@@ -380,7 +394,7 @@ taken-cases {A = A} value_of (t ∷ ts) o us e = by (value_of t) refl e
         → ((a : A) × (o ≡ Some a) × one value_of (t ∷ ts) a us) ⊎ ((o ≡ None) × (us ≡ t ∷ ts) × (is_some (value_of t) ≡ false))
     by (Some a) q e =
         let read = subst (λ f. taken_first f t ts ≡ Some (o, us)) q e in
-        inl (a, same_value (Some a) o ts us read, (t, ap (λ vs. t ∷ vs) (sym (same_rest (Some a) o ts us read)), q))
+        inl (a, same_value (Some a) o ts us read, (t, record { tokens = ap (λ vs. t ∷ vs) (sym (same_rest (Some a) o ts us read)) }, q))
     by None q e =
         let read = subst (λ f. taken_first f t ts ≡ Some (o, us)) q e in
         inr (same_value None o (t ∷ ts) us read, same_rest None o (t ∷ ts) us read, ap is_some q)
@@ -391,20 +405,20 @@ module _ {A : Type 0} {value_of : Token → Option A} {T : Line A} {first : List
   none-barred (t ∷ ts) c = ap is_some (stands.none t (not-true _ c))
 
   begun : (ts : Tokens) (a : A) (us : Tokens) → T ts a us → begins first ts ≡ true
-  begun ts a us spelt = let here = stands.back ts a us spelt in subst (λ vs. begins first vs ≡ true) (sym here.1) (stands.shows here.0 a here.2)
+  begun ts a us spelt = let here = stands.back ts a us spelt in subst (λ vs. begins first vs ≡ true) (sym here.1.tokens) (stands.shows here.0 a here.2)
 
   shorter-one : (ts : Tokens) (a : A) (us : Tokens) → T ts a us → 1 + length us ≤ length ts
-  shorter-one ts a us spelt = let same = ap length (stands.back ts a us spelt).1 in omega (arith, same)
+  shorter-one ts a us spelt = let same = ap length (stands.back ts a us spelt).1.tokens in omega (arith, same)
 
   pub not-spelt : (ts : Tokens) → stands_for value_of ts ≡ false → (a : A) (vs : Tokens) → ¬ T ts a vs
-  not-spelt ts none a vs spelt = let here = stands.back ts a vs spelt in let found = sym none ∙ (ap (stands_for value_of) here.1 ∙ ap is_some here.2) in cc
+  not-spelt ts none a vs spelt = let here = stands.back ts a vs spelt in let found = sym none ∙ (ap (stands_for value_of) here.1.tokens ∙ ap is_some here.2) in cc
 
   pub not-standing : (ts : Tokens) → ((a : A) (vs : Tokens) → ¬ T ts a vs) → stands_for value_of ts ≡ false
   not-standing [] none = refl
   not-standing (t ∷ ts) none = by (value_of t) refl
     where
       by : (o : Option A) → value_of t ≡ o → is_some (value_of t) ≡ false
-      by (Some a) q = absurd (none a ts (stands.there (t ∷ ts) a ts (t, refl, q)))
+      by (Some a) q = absurd (none a ts (stands.there (t ∷ ts) a ts (t, record { tokens = refl }, q)))
       by None q = ap is_some q
 
 -- Such a token is read where it comes next; else the other line is spelt.

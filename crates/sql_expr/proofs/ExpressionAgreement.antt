@@ -15,7 +15,7 @@ use Rattle.sql_expr.specs.Lines as lines
 use Rattle.sql_expr.specs.Ended.{is_ended}
 use Rattle.sql_expr.specs.Grammar as grammar
 use Rattle.sql_expr.proofs.Heads.{Barred, Head, clear, has_word}
-use Rattle.sql_expr.proofs.Agreement.{Agrees, nothing, tests-word, agrees-pure, agrees-refuse, agrees-bind, agrees-same, agrees-wider, agrees-fewer, agrees-test, agrees-word, agrees-sign, agrees-word-deeper, agrees-sign-deeper, agrees-expect_word, agrees-expect_sign, agrees-behind, agrees-said, agrees-taken, agrees-unless, agrees-one}
+use Rattle.sql_expr.proofs.Agreement.{Agrees, nothing, beginning, tests-word, agrees-pure, agrees-refuse, agrees-bind, agrees-same, agrees-wider, agrees-fewer, agrees-test, agrees-word, agrees-sign, agrees-word-deeper, agrees-sign-deeper, agrees-expect_word, agrees-expect_sign, agrees-behind, agrees-said, agrees-taken, agrees-unless, agrees-one}
 use Rattle.sql_expr.proofs.ListAgreement.{agrees-list}
 use Rattle.sql_expr.proofs.OperandAgreement.{agrees-operands, agrees-chain}
 use Rattle.sql_expr.proofs.TokenKinds.{stands-name, stands-number, stands-constant, stands-comparison, stands-additive, stands-multiplicative, constant, constant_heads}
@@ -120,9 +120,9 @@ module _ {S : Type 0} {n : ℕ} (deeper : Level → Parser Expr) (nested : Level
   primary-back ts x us (inr (inr (inl (inl (first, middle, front, dotted))))) = inr (inr (first, middle, front, inr (inl dotted)))
   primary-back ts x us (inr (inr (inl (inr (first, middle, front, alone))))) = inr (inr (first, middle, front, inr (inr alone)))
   primary-back ts x us (inr (inr (inr (inl (first, middle, front, (u, behind, opened, (c, after, inl (v, starred_end, starred, (same, here)), (w, last, closed, (value, end))))))))) =
-      inr (inr (first, middle, front, inl (u, behind, opened, inl (v, starred_end, starred, (w, last, sym here ∙ closed, (value ∙ same, end))))))
+      inr (inr (first, middle, front, inl (u, behind, opened, inl (v, starred_end, starred, (w, last, beginning here closed, (value ∙ same, end))))))
   primary-back ts x us (inr (inr (inr (inl (first, middle, front, (u, behind, opened, (c, after, inr (argument, inner_end, inner, (same, here)), (w, last, closed, (value, end))))))))) =
-      inr (inr (first, middle, front, inl (u, behind, opened, inr (argument, inner_end, inner, (w, last, sym here ∙ closed, (value ∙ same, end))))))
+      inr (inr (first, middle, front, inl (u, behind, opened, inr (argument, inner_end, inner, (w, last, beginning here closed, (value ∙ same, end))))))
   primary-back ts x us (inr (inr (inr (inr inner)))) = inl inner
 
   agrees-parenthesized : Agrees S n (spec.parenthesized deeper) parenthesized 1 expression_heads nothing
@@ -220,13 +220,13 @@ module _ {S : Type 0} {n : ℕ} (deeper : Level → Parser Expr) (nested : Level
   member-back : (ts : Tokens) (x : Expr) (us : Tokens) → grammar.membership nested ts x us → member ts x us
   unfolding grammar.membership
   member-back ts x us (operand, middle, front, inl (is_not, behind, inl (u, last, negative, (same, here)), (v, after, word, inner))) =
-      (operand, middle, front, inl (u, last, negative, inl (v, after, sym here ∙ word, subst (λ b. grammar.in_list nested operand b after x us) same inner)))
+      (operand, middle, front, inl (u, last, negative, inl (v, after, beginning here word, subst (λ b. grammar.in_list nested operand b after x us) same inner)))
   member-back ts x us (operand, middle, front, inl (is_not, behind, inr (same, here), (v, after, word, inner))) =
-      (operand, middle, front, inr (inl (v, after, sym here ∙ word, subst (λ b. grammar.in_list nested operand b after x us) same inner)))
+      (operand, middle, front, inr (inl (v, after, beginning here word, subst (λ b. grammar.in_list nested operand b after x us) same inner)))
   member-back ts x us (operand, middle, front, inr (inl (is_not, behind, inl (u, last, negative, (same, here)), (v, after, word, inner)))) =
-      (operand, middle, front, inl (u, last, negative, inr (inl (v, after, sym here ∙ word, subst (λ b. grammar.between nested operand b after x us) same inner))))
+      (operand, middle, front, inl (u, last, negative, inr (inl (v, after, beginning here word, subst (λ b. grammar.between nested operand b after x us) same inner))))
   member-back ts x us (operand, middle, front, inr (inl (is_not, behind, inr (same, here), (v, after, word, inner)))) =
-      (operand, middle, front, inr (inr (inl (v, after, sym here ∙ word, subst (λ b. grammar.between nested operand b after x us) same inner))))
+      (operand, middle, front, inr (inr (inl (v, after, beginning here word, subst (λ b. grammar.between nested operand b after x us) same inner))))
   member-back ts x us (operand, middle, front, inr (inr alone)) = (operand, middle, front, inr (inr (inr alone)))
 
   abbrev tested : Expr → Bool → Parser Expr

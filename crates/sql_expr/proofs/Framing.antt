@@ -37,25 +37,25 @@ frames-gives a = record { at = λ ts b us spelt. record { front = []; joined = s
 frames-name : Frames name
 frames-name = record {
   at = λ ts n us spelt. ⊎_elim
-      (λ bare. record { front = token.Word n ∷ []; joined = bare.0; anywhere = λ vs. inl (refl, bare.1) })
-      (λ quoted. record { front = token.Quoted n ∷ []; joined = quoted; anywhere = λ vs. inr refl })
+      (λ bare. record { front = token.Word n ∷ []; joined = bare.0.tokens; anywhere = λ vs. inl (record { tokens = refl }, bare.1) })
+      (λ quoted. record { front = token.Quoted n ∷ []; joined = quoted.tokens; anywhere = λ vs. inr (record { tokens = refl }) })
       spelt;
 }
 
 frames-number : Frames number
-frames-number = record { at = λ ts digits us spelt. record { front = token.Number digits ∷ []; joined = spelt; anywhere = λ vs. refl } }
+frames-number = record { at = λ ts digits us spelt. record { front = token.Number digits ∷ []; joined = spelt.tokens; anywhere = λ vs. record { tokens = refl } } }
 
 frames-string : Frames string
-frames-string = record { at = λ ts text us spelt. record { front = token.Text text ∷ []; joined = spelt; anywhere = λ vs. refl } }
+frames-string = record { at = λ ts text us spelt. record { front = token.Text text ∷ []; joined = spelt.tokens; anywhere = λ vs. record { tokens = refl } } }
 
 frames-parameter : Frames parameter
-frames-parameter = record { at = λ ts digits us spelt. record { front = token.Param digits ∷ []; joined = spelt; anywhere = λ vs. refl } }
+frames-parameter = record { at = λ ts digits us spelt. record { front = token.Param digits ∷ []; joined = spelt.tokens; anywhere = λ vs. record { tokens = refl } } }
 
 frames-key : (w : Text) → Frames (a_word w)
-frames-key w = record { at = λ ts u us spelt. record { front = token.Word w ∷ []; joined = spelt; anywhere = λ vs. refl } }
+frames-key w = record { at = λ ts u us spelt. record { front = token.Word w ∷ []; joined = spelt.tokens; anywhere = λ vs. record { tokens = refl } } }
 
 frames-mark : (s : Sign) → Frames (mark s)
-frames-mark s = record { at = λ ts u us spelt. record { front = token.Sign s ∷ []; joined = spelt; anywhere = λ vs. refl } }
+frames-mark s = record { at = λ ts u us spelt. record { front = token.Sign s ∷ []; joined = spelt.tokens; anywhere = λ vs. record { tokens = refl } } }
 
 frames-bind : {A B : Type 0} {P : Line A} {Q : A → Line B} → Frames P → ((a : A) → Frames (Q a)) → Frames (lines.◌>>=◌ P Q)
 frames-bind {P = P} {Q = Q} first rest = record {
@@ -121,7 +121,7 @@ no_number-framed ts a us [] joined none some anywhere = let same = ap length joi
 no_number-framed ts a us (t ∷ front) joined none some anywhere = record {
   front = t ∷ front;
   joined = joined;
-  anywhere = λ vs. (tt, t ∷ front ++ vs, (refl, λ digits ws spelt. let same : t ≡ token.Number digits = cc in none digits (front ++ us) (joined ∙ ap (λ x. x ∷ front ++ us) same)), anywhere vs);
+  anywhere = λ vs. (tt, t ∷ front ++ vs, (refl, λ digits ws spelt. let here = spelt.tokens in let same : t ≡ token.Number digits = cc in none digits (front ++ us) (record { tokens = joined ∙ ap (λ x. x ∷ front ++ us) same })), anywhere vs);
 }
 
 frames-no_number : {A : Type 0} {Q : Line A} → Frames Q → ((ts : Tokens) (a : A) (us : Tokens) → Q ts a us → 1 + length us ≤ length ts) → Frames (lines.◌>>◌ (unless number) Q)

@@ -83,14 +83,14 @@ module _ {S : Type 0} {n : ℕ} {operator_of : Token → Option Arithmetic} {T :
     begins-applied ts [] us back c = begins-right first (Head.others tail ∷ []) ts (clear-begins tail ts (subst (λ vs. clear tail vs ≡ true) back c))
     begins-applied ts (next ∷ more) us back c =
         let op = stands.back ts back.1.0 back.1.1 back.1.2 in
-        begins-left first (Head.others tail ∷ []) ts (subst (λ vs. begins first vs ≡ true) (sym op.1) (stands.shows op.0 back.1.0 op.2))
+        begins-left first (Head.others tail ∷ []) ts (subst (λ vs. begins first vs ≡ true) (sym op.1.tokens) (stands.shows op.0 back.1.0 op.2))
 
     takes-applied : (ts : Tokens) (others : List (Arithmetic × Expr)) (us : Tokens) → many applied ts others us → length us ≤ length ts
     takes-applied ts [] us back = let same = ap length back in omega (arith, same)
     takes-applied ts (next ∷ more) us back =
         let op = stands.back ts back.1.0 back.1.1 back.1.2 in
         let operand = back.1.3 in
-        let one_less = ap length op.1 in
+        let one_less = ap length op.1.tokens in
         let less = each.takes back.1.1 operand.0 operand.1 operand.2 in
         let same = ap length operand.3.1 in
         let rest = takes-applied back.0 more us back.2 in omega (arith, one_less, less, same, rest)
@@ -100,7 +100,7 @@ module _ {S : Type 0} {n : ℕ} {operator_of : Token → Option Arithmetic} {T :
     unfolding grouped_from
     grouped-complete zero left ts [] us enough within back c = ap (λ vs. Some (left, vs)) (sym back)
     grouped-complete zero left ts (next ∷ more) us enough within back c =
-        let one_less = ap length (stands.back ts back.1.0 back.1.1 back.1.2).1 in absurd (omega arith)
+        let one_less = ap length (stands.back ts back.1.0 back.1.1 back.1.2).1.tokens in absurd (omega arith)
     grouped-complete (suc turns) left ts [] us enough within back c =
         let free = begins-clear bar (Head.others tail ∷ []) ts ends (clear-begins tail ts (subst (λ vs. clear tail vs ≡ true) back c)) in
         read_then (λ found. goes_on found (λ op. p >>= (λ right. grouped_from (taken operator_of) p turns (e.Arithmetic op left right))) left) None ts (taken-nothing operator_of ts (none-barred stands ts free))
@@ -108,14 +108,14 @@ module _ {S : Type 0} {n : ℕ} {operator_of : Token → Option Arithmetic} {T :
     grouped-complete (suc turns) left ts (next ∷ more) us enough within back c =
         let op = stands.back ts back.1.0 back.1.1 back.1.2 in
         let operand = back.1.3 in
-        let one_less = ap length op.1 in
+        let one_less = ap length op.1.tokens in
         let less = each.takes back.1.1 operand.0 operand.1 operand.2 in
         let same = ap length operand.3.1 in
         let here : many applied operand.1 more us = subst (λ vs. many applied vs more us) operand.3.1 back.2 in
         let free = begins-clear stop (first ++ Head.others tail ∷ []) operand.1 apart (begins-applied operand.1 more us here c) in
         let read = each.complete back.1.1 operand.0 operand.1 (omega arith) operand.2 free in
         read_then (λ found. goes_on found (λ o. p >>= (λ right. grouped_from (taken operator_of) p turns (e.Arithmetic o left right))) left) (Some back.1.0) back.1.1
-        (ap (taken operator_of) op.1 ∙ taken-some operator_of op.0 back.1.1 back.1.0 op.2)
+        (ap (taken operator_of) op.1.tokens ∙ taken-some operator_of op.0 back.1.1 back.1.0 op.2)
         (read_then (λ right. grouped_from (taken operator_of) p turns (e.Arithmetic back.1.0 left right)) operand.0 operand.1 read
         (grouped-complete turns (e.Arithmetic back.1.0 left operand.0) operand.1 more us (omega arith) (omega arith) here c
         ∙ ap (λ o. Some (grouped (e.Arithmetic o.0 left o.1) more, us)) (sym operand.3.0)))

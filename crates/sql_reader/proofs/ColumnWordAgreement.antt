@@ -10,7 +10,7 @@ use Rattle.sql_expr.specs.Names.{sees_name}
 use Rattle.sql_reader_catalog.specs.Keywords as spec
 use Rattle.sql_reader.specs.CatalogGrammar as grammar
 use Rattle.sql_expr.proofs.Heads.{Barred}
-use Rattle.sql_expr.proofs.Agreement.{word-seen, sees-word}
+use Rattle.sql_expr.proofs.Agreement.{word-seen, sees-word, two-tokens}
 use Rattle.sql_reader.proofs.KeywordAgreement.{Looks, looks-name, name-there, name-sees, behind-name}
 use Rattle.sql_reader.proofs.PartAgreement.{part_words}
 
@@ -61,10 +61,10 @@ change-there us e = by (sees_word (codes "type") us) refl (sees_word (codes "dro
 
 change-sees : (us : Tokens) (u : Unit {0}) (vs : Tokens) → grammar.change_begun us u vs → spec.sees_change us ≡ true
 unfolding spec.sees_change sees_word
-change-sees us u vs (inl (x, middle, typed, (same, (n, last, named)))) = ap spec.sees_change typed ∙ name-sees middle n last named
-change-sees us u vs (inr (inl set)) = ap spec.sees_change set
-change-sees us u vs (inr (inr (x, middle, dropped, inl default))) = ap spec.sees_change (dropped ∙ ap (λ ws. token.Word (codes "drop") ∷ ws) default)
-change-sees us u vs (inr (inr (x, middle, dropped, inr negated))) = ap spec.sees_change (dropped ∙ ap (λ ws. token.Word (codes "drop") ∷ ws) negated)
+change-sees us u vs (inl (x, middle, typed, (same, (n, last, named)))) = ap spec.sees_change typed.tokens ∙ name-sees middle n last named
+change-sees us u vs (inr (inl set)) = ap spec.sees_change set.tokens
+change-sees us u vs (inr (inr (x, middle, dropped, inl default))) = ap spec.sees_change (two-tokens dropped default)
+change-sees us u vs (inr (inr (x, middle, dropped, inr negated))) = ap spec.sees_change (two-tokens dropped negated)
 
 -- a name and a change
 pub looks-change : Looks spec.is_column_before_change (codes "column") (lines.◌>>◌ name grammar.change_begun)

@@ -15,7 +15,7 @@ use Rattle.sql_tokens.specs.declared.token.Token.TheVariants as token
 use Rattle.sql_tree.specs.declared.command.Command.{Command}
 use Rattle.sql_expr.specs.Load.{load_of}
 use Rattle.sql_expr.specs.Reading.{Text, Tokens, Outcome, Parser}
-use Rattle.sql_expr.specs.Lines.{Line, word as a_word}
+use Rattle.sql_expr.specs.Lines.{Line, word as a_word, Takes}
 use Rattle.sql_expr.specs.Lines as lines
 use Rattle.sql_reader.specs.declared.leading.Keyword.{Keyword}
 use Rattle.sql_reader.specs.Leading.{leading_words, keyword_of}
@@ -66,61 +66,61 @@ by_rows (row ∷ rows) all w ts c us e = by (bytes_eq row.0 w) refl (by_rows row
 all_rows : Rows leading_words
 unfolding grammar.command
 all_rows = (
-  (λ ts c us e. inr (inr (inr (inl (inr (inr (inr (inr (inr (inl (tt, ts, refl, (agrees-abort {n = 0}).sound tt ts c us e))))))))))),
+  (λ ts c us e. inr (inr (inr (inl (inr (inr (inr (inr (inr (inl (tt, ts, record { tokens = refl }, (agrees-abort {n = 0}).sound tt ts c us e))))))))))),
   (
-    (λ ts c us e. inr (inr (inr (inr (inr (inl (inr (inr (inr (inr ((tt, ts, refl, (agrees-alter {n = 0}).sound tt ts c us e)))))))))))),
+    (λ ts c us e. inr (inr (inr (inr (inr (inl (inr (inr (inr (inr ((tt, ts, record { tokens = refl }, (agrees-alter {n = 0}).sound tt ts c us e)))))))))))),
     (
-      (λ ts c us e. inr (inr (inr (inr (inr (inl (inr (inr (inr (inl (tt, ts, refl, (agrees-analyze {n = 0}).sound tt ts c us e))))))))))),
+      (λ ts c us e. inr (inr (inr (inr (inr (inl (inr (inr (inr (inl (tt, ts, record { tokens = refl }, (agrees-analyze {n = 0}).sound tt ts c us e))))))))))),
       (
-        (λ ts c us e. inr (inr (inr (inl (inl (tt, ts, refl, (agrees-begin {n = 0}).sound tt ts c us e)))))),
+        (λ ts c us e. inr (inr (inr (inl (inl (tt, ts, record { tokens = refl }, (agrees-begin {n = 0}).sound tt ts c us e)))))),
         (
-          (λ ts c us e. inr (inr (inl (inr (inr (inr ((tt, ts, refl, (agrees-close {n = 0}).sound tt ts c us e)))))))),
+          (λ ts c us e. inr (inr (inl (inr (inr (inr ((tt, ts, record { tokens = refl }, (agrees-close {n = 0}).sound tt ts c us e)))))))),
           (
-            (λ ts c us e. inr (inr (inr (inl (inr (inr (inl (tt, ts, refl, (agrees-commit {n = 0}).sound tt ts c us e)))))))),
+            (λ ts c us e. inr (inr (inr (inl (inr (inr (inl (tt, ts, record { tokens = refl }, (agrees-commit {n = 0}).sound tt ts c us e)))))))),
             (
-              (λ ts c us e. inr (inr (inr (inr (inr (inl (inl (tt, ts, refl, (agrees-create {n = 0}).sound tt ts c us e)))))))),
+              (λ ts c us e. inr (inr (inr (inr (inr (inl (inl (tt, ts, record { tokens = refl }, (agrees-create {n = 0}).sound tt ts c us e)))))))),
               (
-                (λ ts c us e. inr (inl (inr (inr (inr (inl (tt, ts, refl, (agrees-deallocate {n = 0}).sound tt ts c us e))))))),
+                (λ ts c us e. inr (inl (inr (inr (inr (inl (tt, ts, record { tokens = refl }, (agrees-deallocate {n = 0}).sound tt ts c us e))))))),
                 (
-                  (λ ts c us e. inr (inr (inl (inl (tt, ts, refl, (agrees-declare {n = 0}).sound tt ts c us e))))),
+                  (λ ts c us e. inr (inr (inl (inl (tt, ts, record { tokens = refl }, (agrees-declare {n = 0}).sound tt ts c us e))))),
                   (
                     (λ ts c us e. inl ((agrees-statement_command {n = 0}).sound tt (token.Word (codes "delete") ∷ ts) c us e)),
                     (
-                      (λ ts c us e. inr (inl (inr (inr (inr (inr ((tt, ts, refl, (agrees-discard {n = 0}).sound tt ts c us e)))))))),
+                      (λ ts c us e. inr (inl (inr (inr (inr (inr ((tt, ts, record { tokens = refl }, (agrees-discard {n = 0}).sound tt ts c us e)))))))),
                       (
-                        (λ ts c us e. inr (inr (inr (inr (inr (inl (inr (inl (tt, ts, refl, (agrees-drop_object {n = 0}).sound tt ts c us e))))))))),
+                        (λ ts c us e. inr (inr (inr (inr (inr (inl (inr (inl (tt, ts, record { tokens = refl }, (agrees-drop_object {n = 0}).sound tt ts c us e))))))))),
                         (
-                          (λ ts c us e. inr (inr (inr (inl (inr (inr (inr (inl (tt, ts, refl, (agrees-commit {n = 0}).sound tt ts c us e))))))))),
+                          (λ ts c us e. inr (inr (inr (inl (inr (inr (inr (inl (tt, ts, record { tokens = refl }, (agrees-commit {n = 0}).sound tt ts c us e))))))))),
                           (
-                            (λ ts c us e. inr (inl (inr (inl (tt, ts, refl, (agrees-execute {n = 0}).sound tt ts c us e))))),
+                            (λ ts c us e. inr (inl (inr (inl (tt, ts, record { tokens = refl }, (agrees-execute {n = 0}).sound tt ts c us e))))),
                             (
-                              (λ ts c us e. inr (inl (inr (inr (inl (tt, ts, refl, (agrees-explain {n = 0}).sound tt ts c us e)))))),
+                              (λ ts c us e. inr (inl (inr (inr (inl (tt, ts, record { tokens = refl }, (agrees-explain {n = 0}).sound tt ts c us e)))))),
                               (
-                                (λ ts c us e. inr (inr (inl (inr (inl (tt, ts, refl, (agrees-fetch {n = 0}).sound tt ts c us e)))))),
+                                (λ ts c us e. inr (inr (inl (inr (inl (tt, ts, record { tokens = refl }, (agrees-fetch {n = 0}).sound tt ts c us e)))))),
                                 (
                                   (λ ts c us e. inl ((agrees-statement_command {n = 0}).sound tt (token.Word (codes "insert") ∷ ts) c us e)),
                                   (
-                                    (λ ts c us e. inr (inr (inl (inr (inr (inl (tt, ts, refl, (agrees-move_cursor {n = 0}).sound tt ts c us e))))))),
+                                    (λ ts c us e. inr (inr (inl (inr (inr (inl (tt, ts, record { tokens = refl }, (agrees-move_cursor {n = 0}).sound tt ts c us e))))))),
                                     (
-                                      (λ ts c us e. inr (inl (inl (tt, ts, refl, (agrees-prepare {n = 0}).sound tt ts c us e)))),
+                                      (λ ts c us e. inr (inl (inl (tt, ts, record { tokens = refl }, (agrees-prepare {n = 0}).sound tt ts c us e)))),
                                       (
-                                        (λ ts c us e. inr (inr (inr (inl (inr (inr (inr (inr (inr (inr (inr ((tt, ts, refl, (agrees-release {n = 0}).sound tt ts c us e))))))))))))),
+                                        (λ ts c us e. inr (inr (inr (inl (inr (inr (inr (inr (inr (inr (inr ((tt, ts, record { tokens = refl }, (agrees-release {n = 0}).sound tt ts c us e))))))))))))),
                                         (
-                                          (λ ts c us e. inr (inr (inr (inr (inl (inr (inl (tt, ts, refl, (agrees-reset {n = 0}).sound tt ts c us e)))))))),
+                                          (λ ts c us e. inr (inr (inr (inr (inl (inr (inl (tt, ts, record { tokens = refl }, (agrees-reset {n = 0}).sound tt ts c us e)))))))),
                                           (
-                                            (λ ts c us e. inr (inr (inr (inl (inr (inr (inr (inr (inl (tt, ts, refl, (agrees-rollback {n = 0}).sound tt ts c us e)))))))))),
+                                            (λ ts c us e. inr (inr (inr (inl (inr (inr (inr (inr (inl (tt, ts, record { tokens = refl }, (agrees-rollback {n = 0}).sound tt ts c us e)))))))))),
                                             (
-                                              (λ ts c us e. inr (inr (inr (inl (inr (inr (inr (inr (inr (inr (inl (tt, ts, refl, (agrees-savepoint {n = 0}).sound tt ts c us e)))))))))))),
+                                              (λ ts c us e. inr (inr (inr (inl (inr (inr (inr (inr (inr (inr (inl (tt, ts, record { tokens = refl }, (agrees-savepoint {n = 0}).sound tt ts c us e)))))))))))),
                                               (
                                                 (λ ts c us e. inl ((agrees-statement_command {n = 0}).sound tt (token.Word (codes "select") ∷ ts) c us e)),
                                                 (
-                                                  (λ ts c us e. inr (inr (inr (inr (inl (inl (tt, ts, refl, (agrees-set {n = 0}).sound tt ts c us e))))))),
+                                                  (λ ts c us e. inr (inr (inr (inr (inl (inl (tt, ts, record { tokens = refl }, (agrees-set {n = 0}).sound tt ts c us e))))))),
                                                   (
-                                                    (λ ts c us e. inr (inr (inr (inr (inl (inr (inr ((tt, ts, refl, (agrees-show {n = 0}).sound tt ts c us e))))))))),
+                                                    (λ ts c us e. inr (inr (inr (inr (inl (inr (inr ((tt, ts, record { tokens = refl }, (agrees-show {n = 0}).sound tt ts c us e))))))))),
                                                     (
-                                                      (λ ts c us e. inr (inr (inr (inl (inr (inl (tt, ts, refl, (agrees-start {n = 0}).sound tt ts c us e))))))),
+                                                      (λ ts c us e. inr (inr (inr (inl (inr (inl (tt, ts, record { tokens = refl }, (agrees-start {n = 0}).sound tt ts c us e))))))),
                                                       (
-                                                        (λ ts c us e. inr (inr (inr (inr (inr (inl (inr (inr (inl (tt, ts, refl, (agrees-truncate {n = 0}).sound tt ts c us e)))))))))),
+                                                        (λ ts c us e. inr (inr (inr (inr (inr (inl (inr (inr (inl (tt, ts, record { tokens = refl }, (agrees-truncate {n = 0}).sound tt ts c us e)))))))))),
                                                         (
                                                           (λ ts c us e. inl ((agrees-statement_command {n = 0}).sound tt (token.Word (codes "update") ∷ ts) c us e)),
                                                           tt,
@@ -169,7 +169,7 @@ command-sound (token.Param x ∷ ts) c us e = cc
 
 behind_word : {run : Parser Command} {P : Line Command} {k : ℕ} {heads : List Head} {tail : Barred} (w : Text) → ((n : ℕ) → Agrees (Unit {0}) n run P k heads tail)
     → ((ts : Tokens) → spec.command (token.Word w ∷ ts) ≡ run ts) → (ts : Tokens) (c : Command) → (lines.◌>>◌ (a_word w) P) ts c [] → spec.command ts ≡ Some (c, [])
-behind_word w agrees begins ts c (u, behind, here, rest) = ap spec.command here ∙ (begins behind ∙ (agrees (length behind)).complete behind c [] (omega arith) rest refl)
+behind_word w agrees begins ts c (u, behind, here, rest) = ap spec.command here.tokens ∙ (begins behind ∙ (agrees (length behind)).complete behind c [] (omega arith) rest refl)
 
 statement-word : (w : Text) (ts : Tokens) → (bytes_eq w (codes "select") || (bytes_eq w (codes "insert") || (bytes_eq w (codes "update") || (bytes_eq w (codes "delete") || false)))) ≡ true
     → spec.command (token.Word w ∷ ts) ≡ statements.statement_command (token.Word w ∷ ts)
@@ -243,8 +243,8 @@ line-complete : (ts : Tokens) (c : Command) → grammar.backslash_line ts c [] �
 unfolding grammar.backslash_line spec.command
 line-complete ts c here = by here
   where
-    at : (letters : Text) (behind : Tokens) → ts ≡ token.Backslash letters ∷ behind → spec.command ts ≡ Some (c, [])
-    at letters behind same = ap spec.command same ∙ (agrees-backslash_line {n = length behind} letters).complete behind c [] (omega arith) (subst (λ vs. grammar.backslash_line vs c []) same here) refl
+    at : (letters : Text) (behind : Tokens) → Takes (token.Backslash letters) ts behind → spec.command ts ≡ Some (c, [])
+    at letters behind same = ap spec.command same.tokens ∙ (agrees-backslash_line {n = length behind} letters).complete behind c [] (omega arith) (subst (λ vs. grammar.backslash_line vs c []) same.tokens here) refl
 
     by : grammar.backslash_line ts c [] → spec.command ts ≡ Some (c, [])
     by (inl (u, behind, same, rest)) = at (codes "prepared") behind same

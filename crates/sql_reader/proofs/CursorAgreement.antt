@@ -11,7 +11,7 @@ use Rattle.sql_tree.specs.declared.cursors.CursorOptions.{CursorOptions}
 use Rattle.sql_tree.specs.declared.select.Select.{Select}
 use Rattle.sql_tree.specs.declared.statement.Statement.TheVariants as statement
 use Rattle.sql_expr.specs.Reading.{Text, Tokens, Parser, ◌>>◌, pure, taken, goes_on, behind, expect_word, sees_word}
-use Rattle.sql_expr.specs.Lines.{Line, gives, word as a_word, many}
+use Rattle.sql_expr.specs.Lines.{Line, gives, word as a_word, many, Takes}
 use Rattle.sql_expr.specs.Lines as lines
 use Rattle.sql_reader_session.specs.declared.cursors.CursorOption.{CursorOption}
 use Rattle.sql_reader_session.specs.declared.cursors.CursorOption.TheVariants.{Scroll, NoScroll, Insensitive, Asensitive}
@@ -20,7 +20,7 @@ use Rattle.sql_reader_session.specs.Cursors as spec
 use Rattle.sql_reader.specs.CursorGrammar as grammar
 use Rattle.sql_reader.specs.QueryGrammar as query_grammar
 use Rattle.sql_expr.proofs.Heads.{Barred, Head, bars, clear, begins, begins-clear, clear-begins, begins-left, begins-right, not-true}
-use Rattle.sql_expr.proofs.Agreement.{Agrees, one, stands_for, taken-nothing, bind_some, nothing, bar_word, same_value, same_rest, same_read, read_then, word-seen, sees-no-word, taken-cases, agrees-pure, agrees-bind, agrees-same, agrees-fewer, agrees-word, agrees-expect_word}
+use Rattle.sql_expr.proofs.Agreement.{Agrees, one, stands_for, taken-nothing, bind_some, nothing, bar_word, same_value, same_rest, same_read, read_then, word-seen, sees-no-word, taken-cases, agrees-pure, agrees-bind, agrees-same, agrees-fewer, agrees-word, agrees-expect_word, taking, two-tokens}
 use Rattle.sql_expr.proofs.ExpressionAgreement.{agrees-name}
 use Rattle.sql_reader.proofs.QueryAgreement.{select_tail, agrees-select}
 use Rattle.sql_reader.proofs.KeywordAgreement.{agrees-map}
@@ -63,14 +63,14 @@ no-option (token.Backslash l) b = refl
 option-spelt : (ts : Tokens) (a : CursorOption) (us : Tokens) → one option_of ts a us → option_line ts a us
 option-spelt ts a us (t, e, v) = by t e v
   where
-    by-word : (w : Text) (b c d : Bool) → bytes_eq w (codes "scroll") ≡ b → bytes_eq w (codes "insensitive") ≡ c → bytes_eq w (codes "asensitive") ≡ d → ts ≡ token.Word w ∷ us
+    by-word : (w : Text) (b c d : Bool) → bytes_eq w (codes "scroll") ≡ b → bytes_eq w (codes "insensitive") ≡ c → bytes_eq w (codes "asensitive") ≡ d → Takes (token.Word w) ts us
         → cond b (Some Scroll) (cond c (Some Insensitive) (cond d (Some Asensitive) None)) ≡ Some a → option_line ts a us
-    by-word w true c d p q r e v = let same : a ≡ Scroll = cc in inl (tt, us, subst (λ x. ts ≡ token.Word x ∷ us) ((bytes_eq-Decides w (codes "scroll")).0 p) e, (same, refl))
-    by-word w false true d p q r e v = let same : a ≡ Insensitive = cc in inr (inr (inl (tt, us, subst (λ x. ts ≡ token.Word x ∷ us) ((bytes_eq-Decides w (codes "insensitive")).0 q) e, (same, refl))))
-    by-word w false false true p q r e v = let same : a ≡ Asensitive = cc in inr (inr (inr (tt, us, subst (λ x. ts ≡ token.Word x ∷ us) ((bytes_eq-Decides w (codes "asensitive")).0 r) e, (same, refl))))
+    by-word w true c d p q r e v = let same : a ≡ Scroll = cc in inl (tt, us, taking e (ap token.Word ((bytes_eq-Decides w (codes "scroll")).0 p)), (same, refl))
+    by-word w false true d p q r e v = let same : a ≡ Insensitive = cc in inr (inr (inl (tt, us, taking e (ap token.Word ((bytes_eq-Decides w (codes "insensitive")).0 q)), (same, refl))))
+    by-word w false false true p q r e v = let same : a ≡ Asensitive = cc in inr (inr (inr (tt, us, taking e (ap token.Word ((bytes_eq-Decides w (codes "asensitive")).0 r)), (same, refl))))
     by-word w false false false p q r e v = cc
 
-    by : (t : Token) → ts ≡ t ∷ us → option_of t ≡ Some a → option_line ts a us
+    by : (t : Token) → Takes t ts us → option_of t ≡ Some a → option_line ts a us
     by (token.Word w) e v = by-word w (bytes_eq w (codes "scroll")) (bytes_eq w (codes "insensitive")) (bytes_eq w (codes "asensitive")) refl refl refl e v
     by (token.Quoted q) e v = cc
     by (token.Sign s) e v = cc
@@ -109,24 +109,24 @@ option-cases ts o us read = by (sees_word (codes "no") ts) refl read
 option-read : (ts : Tokens) (a : CursorOption) (us : Tokens) → option_line ts a us → (cursor_option ts ≡ Some (Some a, us)) × (1 + length us ≤ length ts) × (begins option_heads ts ≡ true)
 unfolding cursor_option sees_word taken
 option-read ts a us (inl (u, middle, e, same)) = (
-  ap cursor_option e ∙ same_read (Some Scroll) (Some a) middle us (ap Some same.0) same.1,
-  (let count = ap length e in let rest = ap length same.1 in omega (arith, count, rest)),
-  ap (begins option_heads) e,
+  ap cursor_option e.tokens ∙ same_read (Some Scroll) (Some a) middle us (ap Some same.0) same.1,
+  (let count = ap length e.tokens in let rest = ap length same.1 in omega (arith, count, rest)),
+  ap (begins option_heads) e.tokens,
 )
 option-read ts a us (inr (inl (u, middle, e, (v, rest, k, same)))) = (
-  ap cursor_option (e ∙ ap (λ vs. token.Word (codes "no") ∷ vs) k) ∙ same_read (Some NoScroll) (Some a) rest us (ap Some same.0) same.1,
-  (let count = ap length e in let more = ap length k in let rest = ap length same.1 in omega (arith, count, more, rest)),
-  ap (begins option_heads) e,
+  ap cursor_option (two-tokens e k) ∙ same_read (Some NoScroll) (Some a) rest us (ap Some same.0) same.1,
+  (let count = ap length e.tokens in let more = ap length k.tokens in let rest = ap length same.1 in omega (arith, count, more, rest)),
+  ap (begins option_heads) e.tokens,
 )
 option-read ts a us (inr (inr (inl (u, middle, e, same)))) = (
-  ap cursor_option e ∙ same_read (Some Insensitive) (Some a) middle us (ap Some same.0) same.1,
-  (let count = ap length e in let rest = ap length same.1 in omega (arith, count, rest)),
-  ap (begins option_heads) e,
+  ap cursor_option e.tokens ∙ same_read (Some Insensitive) (Some a) middle us (ap Some same.0) same.1,
+  (let count = ap length e.tokens in let rest = ap length same.1 in omega (arith, count, rest)),
+  ap (begins option_heads) e.tokens,
 )
 option-read ts a us (inr (inr (inr (u, middle, e, same)))) = (
-  ap cursor_option e ∙ same_read (Some Asensitive) (Some a) middle us (ap Some same.0) same.1,
-  (let count = ap length e in let rest = ap length same.1 in omega (arith, count, rest)),
-  ap (begins option_heads) e,
+  ap cursor_option e.tokens ∙ same_read (Some Asensitive) (Some a) middle us (ap Some same.0) same.1,
+  (let count = ap length e.tokens in let rest = ap length same.1 in omega (arith, count, rest)),
+  ap (begins option_heads) e.tokens,
 )
 
 option-none : (ts : Tokens) → clear bar_options ts ≡ true → cursor_option ts ≡ Some (None, ts)

@@ -12,7 +12,7 @@ use Rattle.sql_reader_query.specs.Lists as spec_lists
 use Rattle.sql_reader_query.specs.FromClause as spec
 use Rattle.sql_reader.specs.QueryGrammar as grammar
 use Rattle.sql_expr.proofs.Heads.{Barred, Head, all_avoid}
-use Rattle.sql_expr.proofs.Agreement.{Agrees, agrees-pure, agrees-refuse, agrees-bind, agrees-same, agrees-fewer, agrees-word, agrees-expect_word}
+use Rattle.sql_expr.proofs.Agreement.{Agrees, agrees-pure, agrees-refuse, agrees-bind, agrees-same, agrees-fewer, agrees-word, agrees-expect_word, beginning}
 use Rattle.sql_expr.proofs.ListAgreement.{agrees-list}
 use Rattle.sql_expr.proofs.ExpressionAgreement.{agrees-expression, operators}
 use Rattle.sql_expr.proofs.TokenKinds.{bar_names}
@@ -66,8 +66,8 @@ join-back : (other : Line (Option Join)) (ts : Tokens) (o : Option Join) (us : T
 unfolding grammar.join
 join-back other ts o us (inl (j, rest, inr (u, middle, cross, spelt), given)) = inl (u, middle, cross, (j, rest, spelt, given))
 join-back other ts o us (inl (j, rest, inl (b, middle, inl (u, behind_inner, inner, same), (v, behind_join, join, spelt)), given)) =
-    inr (inl (u, behind_inner, inner, (v, behind_join, sym same.1 ∙ join, (j, rest, spelt, given))))
-join-back other ts o us (inl (j, rest, inl (b, middle, inr same, (v, behind_join, join, spelt)), given)) = inr (inr (inl (v, behind_join, sym same.1 ∙ join, (j, rest, spelt, given))))
+    inr (inl (u, behind_inner, inner, (v, behind_join, beginning same.1 join, (j, rest, spelt, given))))
+join-back other ts o us (inl (j, rest, inl (b, middle, inr same, (v, behind_join, join, spelt)), given)) = inr (inr (inl (v, behind_join, beginning same.1 join, (j, rest, spelt, given))))
 join-back other ts o us (inr none) = inr (inr (inr none))
 
 certain-less : Less (join_or refuse) spec.join

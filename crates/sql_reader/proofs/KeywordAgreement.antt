@@ -6,7 +6,7 @@ use Rattle.std.proofs.lemmas.Grind.{common_steps}
 use Rattle.sql_tokens.specs.declared.token.Token.TheVariants as token
 use Rattle.sql_expr.specs.Reading.{Text, Tokens, Parser, ◌>>=◌, ◌>>◌, ◌<$>◌, pure, required, behind, eat_word, sees_word}
 use Rattle.sql_expr.specs.Names.{name_of, sees_name}
-use Rattle.sql_expr.specs.Lines.{Line, gives, ahead, unless, word as a_word, name, maybe}
+use Rattle.sql_expr.specs.Lines.{Line, gives, ahead, unless, word as a_word, name, maybe, Takes}
 use Rattle.sql_expr.specs.Lines as lines
 use Rattle.sql_reader_session.specs.Keywords.{eat_either}
 use Rattle.sql_expr.proofs.Heads.{Barred, Head, clear, begins, all_avoid, clear-begins, begins-left, begins-right, and-left, and-right}
@@ -131,7 +131,7 @@ both-true false b e k = cc
 
 -- A test of the next tokens, which says whether the word stands before the line.
 pub record Looks {A : Type 0} (test : Tokens → Bool) (w : Text) (F : Line A) : Type 0 where
-  pub yes : (ts : Tokens) → test ts ≡ true → (ts ≡ token.Word w ∷ drop 1 ts) × ((a : A) × (vs : Tokens) × F (drop 1 ts) a vs)
+  pub yes : (ts : Tokens) → test ts ≡ true → Takes (token.Word w) ts (drop 1 ts) × ((a : A) × (vs : Tokens) × F (drop 1 ts) a vs)
   pub sure : (us : Tokens) (a : A) (vs : Tokens) → F us a vs → test (token.Word w ∷ us) ≡ true
 
 pub agrees-keyword : {S : Type 0} {n : ℕ} {A B : Type 0} {test : Tokens → Bool} {F : Line A} {P Q : Line B} {k m : ℕ} {inner heads : List Head} {tail : Barred} (w : Text) (f : Bool → Parser B)
@@ -141,7 +141,7 @@ agrees-keyword {S = S} {A = A} {B = B} {test = test} {F = F} {P = P} {Q = Q} {k 
   sound = λ s ts b us e. sound-by s ts b us (test ts) refl e;
   complete = λ ts b us within spelt c. ⊎_elim
       (λ left.
-      let here = left.2 in
+      let here = left.2.tokens in
       let next = left.3 in
       let shorter = ap length here in
       let seen = ap test here ∙ look.sure left.1 next.2.1.0 next.2.1.1 next.2.1.2 in
@@ -157,7 +157,7 @@ agrees-keyword {S = S} {A = A} {B = B} {test = test} {F = F} {P = P} {Q = Q} {k 
       spelt;
   takes = λ ts b us spelt. ⊎_elim
       (λ left.
-      let shorter = ap length left.2 in
+      let shorter = ap length left.2.tokens in
       let next = left.3 in
       let more = found_so.takes left.1 b us (subst (λ vs. P vs b us) next.2.0 next.3) in
       let least = min-left (suc k) m in omega arith)
@@ -166,7 +166,7 @@ agrees-keyword {S = S} {A = A} {B = B} {test = test} {F = F} {P = P} {Q = Q} {k 
 }
   where
     clashes : (ts : Tokens) → test ts ≡ false → (a : A) (vs : Tokens) → ¬ (lines.◌>>◌ (a_word w) F) ts a vs
-    clashes ts q a vs (u, middle, here, front) = let seen = sym q ∙ (ap test here ∙ look.sure middle a vs front) in cc
+    clashes ts q a vs (u, middle, here, front) = let seen = sym q ∙ (ap test here.tokens ∙ look.sure middle a vs front) in cc
 
     unseen : (ts : Tokens) → ((a : A) (vs : Tokens) → ¬ (lines.◌>>◌ (a_word w) F) ts a vs) → (b : Bool) → test ts ≡ b → test ts ≡ false
     unseen ts none true q = let seen = look.yes ts q in absurd (none seen.1.0 seen.1.1 (tt, drop 1 ts, seen.0, seen.1.2))
@@ -207,15 +207,15 @@ name-there [] e = cc
 name-there (t ∷ us) e = by (name_of t) refl
   where
     by : (o : Option Text) → name_of t ≡ o → (n : Text) × name (t ∷ us) n us
-    by (Some n) q = (n, stands-name.there (t ∷ us) n us (t, refl, q))
+    by (Some n) q = (n, stands-name.there (t ∷ us) n us (t, record { tokens = refl }, q))
     by None q = let none = sym e ∙ ap is_some q in cc
 
 pub name-sees : (us : Tokens) (n : Text) (vs : Tokens) → name us n vs → sees_name us ≡ true
 unfolding sees_name
-name-sees us n vs spelt = let here = stands-name.back us n vs spelt in ap sees_name here.1 ∙ ap is_some here.2
+name-sees us n vs spelt = let here = stands-name.back us n vs spelt in ap sees_name here.1.tokens ∙ ap is_some here.2
 
 pub behind-name : (us : Tokens) (n : Text) (vs : Tokens) → name us n vs → vs ≡ drop 1 us
-behind-name us n vs spelt = sym (ap (drop 1) (stands-name.back us n vs spelt).1)
+behind-name us n vs spelt = sym (ap (drop 1) (stands-name.back us n vs spelt).1.tokens)
 
 pub looks-name : (w : Text) → Looks (sees_before w sees_name) w name
 looks-name w = record {

@@ -11,12 +11,12 @@ use Rattle.sql_tree.specs.declared.select.RowCount.TheVariants.{Number, Param, N
 use Rattle.sql_expr.specs.Reading.{Text, Tokens, Parser, ◌>>=◌, ◌<$>◌, pure, taken, required, behind, eat_word, sees_word}
 use Rattle.sql_expr.specs.Literals as spec_literals
 use Rattle.sql_expr.specs.Literals.{digits_of, param_of}
-use Rattle.sql_expr.specs.Lines.{Line, gives, word as a_word, mark, number, parameter, maybe}
+use Rattle.sql_expr.specs.Lines.{Line, gives, word as a_word, mark, number, parameter, maybe, Takes}
 use Rattle.sql_expr.specs.Lines as lines
 use Rattle.sql_reader_query.specs.Limits as spec
 use Rattle.sql_reader.specs.QueryGrammar as grammar
 use Rattle.sql_expr.proofs.Heads.{Barred, Head, bars, is, all_avoid}
-use Rattle.sql_expr.proofs.Agreement.{Agrees, Stands, nothing, tests-sign, bar_word, agrees-pure, agrees-bind, agrees-same, agrees-fewer, agrees-word, agrees-taken, agrees-one, agrees-test}
+use Rattle.sql_expr.proofs.Agreement.{Agrees, Stands, nothing, tests-sign, bar_word, agrees-pure, agrees-bind, agrees-same, agrees-fewer, agrees-word, agrees-taken, agrees-one, agrees-test, taking, beginning}
 use Rattle.sql_expr.proofs.TokenKinds.{stands-number}
 use Rattle.sql_reader.proofs.OptionalAgreement.{agrees-read, agrees-maybe}
 
@@ -26,7 +26,7 @@ abbrev pub bar_params : Barred
 bar_params = record { words = []; signs = []; names = false; numbers = false; strings = false; params = true }
 
 pub stands-param : Stands param_of parameter (Head.param ∷ []) bar_params
-stands-param = record { shows = shows; none = none; there = λ ts a us spelt. there ts a us spelt.0 spelt.1 spelt.2; back = λ ts a us same. (token.Param a, same, refl) }
+stands-param = record { shows = shows; none = none; there = λ ts a us spelt. there ts a us spelt.0 spelt.1 spelt.2; back = λ ts a us here. (token.Param a, here, refl) }
   where
     shows : (t : Token) (a : Text) → param_of t ≡ Some a → list_any (λ head. is head t) (Head.param ∷ []) ≡ true
     shows (token.Param d) a v = refl
@@ -36,9 +36,9 @@ stands-param = record { shows = shows; none = none; there = λ ts a us spelt. th
     none (token.Param d) b = cc
     none t b = refl
 
-    there : (ts : Tokens) (a : Text) (us : Tokens) (t : Token) → ts ≡ t ∷ us → param_of t ≡ Some a → parameter ts a us
-    there ts a us (token.Param d) same v = let is : d ≡ a = cc in same ∙ ap (λ x. token.Param x ∷ us) is
-    there ts a us t same v = cc
+    there : (ts : Tokens) (a : Text) (us : Tokens) (t : Token) → Takes t ts us → param_of t ≡ Some a → parameter ts a us
+    there ts a us (token.Param d) here v = let is : d ≡ a = cc in taking here (ap token.Param is)
+    there ts a us t here v = cc
 
 -- ---- NULL | parameter | ["-"] number
 
@@ -167,12 +167,12 @@ back ts l us (inl (most, rest, inl (x, behind_count, (u, middle, limit, spelt), 
       ),
     )
 back ts l us (inl (most, rest, inr none, (skipped, end, inl (x, behind_count, (u, middle, offset, spelt), given), final))) =
-    inr (inl (u, middle, sym none.1 ∙ offset, (skipped, end, (x, behind_count, spelt, given), (None, end, inr (refl, refl), ((let e = none.0 in let f = final.0 in cc), final.1)))))
+    inr (inl (u, middle, beginning none.1 offset, (skipped, end, (x, behind_count, spelt, given), (None, end, inr (refl, refl), ((let e = none.0 in let f = final.0 in cc), final.1)))))
 back ts l us (inl (most, rest, inr none, (skipped, end, inr none_too, final))) =
     inr (inr ((let e = none.0 in let f = none_too.0 in let g = final.0 in cc), final.1 ∙ (none_too.1 ∙ none.1)))
 back ts l us (inr (skipped, rest, inl (x, behind_count, (u, middle, offset, spelt), given), more)) = inr (inl (u, middle, offset, (skipped, rest, (x, behind_count, spelt, given), more)))
 back ts l us (inr (skipped, rest, inr none, (most, end, inl (x, behind_count, (u, middle, limit, spelt), given), final))) =
-    inl (u, middle, sym none.1 ∙ limit, (x, behind_count, spelt, (None, behind_count, inr (refl, refl), ((let e = none.0 in let f = given.0 in let g = final.0 in cc), final.1 ∙ given.1))))
+    inl (u, middle, beginning none.1 limit, (x, behind_count, spelt, (None, behind_count, inr (refl, refl), ((let e = none.0 in let f = given.0 in let g = final.0 in cc), final.1 ∙ given.1))))
 back ts l us (inr (skipped, rest, inr none, (most, end, inr none_too, final))) =
     inr (inr ((let e = none.0 in let f = none_too.0 in let g = final.0 in cc), final.1 ∙ (none_too.1 ∙ none.1)))
 

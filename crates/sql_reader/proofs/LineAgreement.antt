@@ -6,7 +6,7 @@ use Rattle.sql_tokens.specs.declared.token.Token.TheVariants as token
 use Rattle.sql_tree.specs.declared.command.Command.{Command}
 use Rattle.sql_tree.specs.declared.command.Command.TheVariants as command
 use Rattle.sql_expr.specs.Reading.{Text, Tokens, Parser, ◌<$>◌, pure}
-use Rattle.sql_expr.specs.Lines.{Line, gives}
+use Rattle.sql_expr.specs.Lines.{Line, gives, Takes}
 use Rattle.sql_expr.specs.Lines as lines
 use Rattle.sql_expr.specs.Names as names
 use Rattle.sql_reader_session.specs.Prepared as prepared
@@ -22,7 +22,7 @@ use Rattle.sql_reader.proofs.StatementAgreement.{statement_tail}
 use Rattle.sql_reader.proofs.PreparedAgreement.{agrees-execute_tree, agrees-prepare_tree}
 
 abbrev backslash_of : Text → Line (Unit {0})
-backslash_of letters ts u us = ts ≡ token.Backslash letters ∷ us
+backslash_of letters ts u us = Takes (token.Backslash letters) ts us
 
 -- the line behind the backslash and its letters
 abbrev pub behind_letters : Text → Line Command
@@ -73,11 +73,12 @@ module _ (n : ℕ) where
         (pick letters (codes "parse") _ _ ts a us e)) (pick letters (codes "cursors") _ _ ts a us e)) (pick letters (codes "prepared") _ _ ts a us read)
       where
         at : {p : Parser Command} {P : Line Command} (w : Text) → Behind p P → (letters ≡ w) × (p ts ≡ Some (a, us)) → lines.◌>>◌ (backslash_of w) P (token.Backslash letters ∷ ts) a us
-        at w agrees x = (tt, ts, ap (λ l. token.Backslash l ∷ ts) x.0, agrees.sound tt ts a us x.1)
+        at w agrees x = (tt, ts, record { tokens = ap (λ l. token.Backslash l ∷ ts) x.0 }, agrees.sound tt ts a us x.1)
 
     -- what stands behind the letters that are spelt
     rest-of : (P : Line Command) (w : Text) (ts : Tokens) (a : Command) (us : Tokens) → lines.◌>>◌ (backslash_of w) P (token.Backslash letters ∷ ts) a us → (letters ≡ w) × P ts a us
     rest-of P w ts a us (u, middle, e, rest) =
+        let here = e.tokens in
         let same : letters ≡ w = cc in
         let moved : middle ≡ ts = cc in
         (same, subst (λ vs. P vs a us) moved rest)

@@ -24,7 +24,7 @@ use Rattle.sql_reader_query.specs.Lists as spec_lists
 use Rattle.sql_reader_query.specs.Outputs as spec
 use Rattle.sql_reader.specs.QueryGrammar as grammar
 use Rattle.sql_expr.proofs.Heads.{Barred, Head, clear, all_avoid, begins-clear, and-left, and-right}
-use Rattle.sql_expr.proofs.Agreement.{Agrees, bar_word, sign-seen, agrees-pure, agrees-bind, agrees-same, agrees-word, agrees-sign, agrees-expect_sign, eaten}
+use Rattle.sql_expr.proofs.Agreement.{Agrees, bar_word, sign-seen, agrees-pure, agrees-bind, agrees-same, agrees-word, agrees-sign, agrees-expect_sign, eaten, two-tokens}
 use Rattle.sql_expr.proofs.ListAgreement.{agrees-list}
 use Rattle.sql_expr.proofs.ExpressionAgreement.{agrees-expression, expression_heads, operators, agrees-name}
 use Rattle.sql_expr.proofs.TokenKinds.{bar_names, stands-name}
@@ -164,7 +164,7 @@ all-of-seen (t ∷ ts) e =
     let item = some-item (name_of t) (and-left (is_some (name_of t)) (sees_sign sign.Dot ts) sooner) in
     let dot = sign-seen sign.Dot ts (and-right (is_some (name_of t)) (sees_sign sign.Dot ts) sooner) in
     let star = sign-seen sign.Star (drop 1 ts) (and-right (is_some (name_of t) && sees_sign sign.Dot ts) (sees_sign sign.Star (drop 1 ts)) e) in
-    record { first = t; item = item.0; rest = drop 1 (drop 1 ts); named = item.1; same = ap (λ vs. t ∷ vs) (dot ∙ ap (λ vs. token.Sign sign.Dot ∷ vs) star) }
+    record { first = t; item = item.0; rest = drop 1 (drop 1 ts); named = item.1; same = ap (λ vs. t ∷ vs) (two-tokens dot star) }
 
 abbrev all_of_line : Line OutputItem
 all_of_line = lines.◌>>=◌ lines.name (λ item. lines.◌>>◌ (mark sign.Dot) (lines.◌>>◌ (mark sign.Star) (gives (output_item.AllOf item))))
@@ -173,7 +173,7 @@ sees-all-of : (ts : Tokens) (o : OutputItem) (us : Tokens) → all_of_line ts o 
 unfolding spec.sees_all_of sees_name sees_sign
 sees-all-of ts o us (item, behind_name, spelt, (u, behind_dot, dot, (v, behind_star, star, given))) =
     let found = stands-name.back ts item behind_name spelt in
-    let same : ts ≡ found.0 ∷ token.Sign sign.Dot ∷ token.Sign sign.Star ∷ behind_star = found.1 ∙ ap (λ vs. found.0 ∷ vs) (dot ∙ ap (λ vs. token.Sign sign.Dot ∷ vs) star) in
+    let same : ts ≡ found.0 ∷ token.Sign sign.Dot ∷ token.Sign sign.Star ∷ behind_star = found.1.tokens ∙ ap (λ vs. found.0 ∷ vs) (two-tokens dot star) in
     ap spec.sees_all_of same ∙ ap (λ o. is_some o && true && true) found.2
 
 -- behind an output

@@ -11,7 +11,7 @@ use Rattle.sql_reader_catalog.specs.declared.columns.Part.TheVariants as variant
 use Rattle.sql_reader_catalog.specs.Columns as spec
 use Rattle.sql_reader.specs.CatalogGrammar as grammar
 use Rattle.sql_expr.proofs.Heads.{Barred, Head, clear, begins-clear, begins-right}
-use Rattle.sql_expr.proofs.Agreement.{Agrees, same_read, read_then, nothing, agrees-pure, agrees-bind, agrees-word, agrees-expect_word}
+use Rattle.sql_expr.proofs.Agreement.{Agrees, same_read, read_then, nothing, agrees-pure, agrees-bind, agrees-word, agrees-expect_word, two-tokens}
 use Rattle.sql_reader.proofs.ConstantAgreement.{agrees-constant}
 use Rattle.sql_reader.proofs.KeywordAgreement.{anything, begins-anything}
 use Rattle.sql_reader.proofs.PartLemmas.{meant}
@@ -91,27 +91,27 @@ part-sound with_keys ts found us read = part-read with_keys ts found us ((agrees
 key-known : (with_keys : Bool) (ts : Tokens) (p : grammar.Part) (us : Tokens) → grammar.key_part with_keys ts p us → cond with_keys spec.key (pure None) ts ≡ Some (Some (meant p), us)
 unfolding grammar.key_part spec.key sees_word
 key-known true ts p us (inl (u, middle, first, (v, last, second, (value, end)))) =
-    ap spec.key (first ∙ ap (λ vs. token.Word (codes "primary") ∷ vs) second)
+    ap spec.key (two-tokens first second)
     ∙ same_read (Some (variant.Key kind.Primary)) (Some (meant p)) last us (ap (λ q. Some (meant q)) value) end
 key-known true ts p us (inr (u, middle, first, (value, end))) =
-    ap spec.key first ∙ same_read (Some (variant.Key kind.Unique)) (Some (meant p)) middle us (ap (λ q. Some (meant q)) value) end
+    ap spec.key first.tokens ∙ same_read (Some (variant.Key kind.Unique)) (Some (meant p)) middle us (ap (λ q. Some (meant q)) value) end
 key-known false ts p us nothing_spelt = absurd nothing_spelt
 
 key-passed : (with_keys : Bool) (ts : Tokens) (p : grammar.Part) (us : Tokens) → grammar.key_part with_keys ts p us → spec.part with_keys ts ≡ cond with_keys spec.key (pure None) ts
 unfolding grammar.key_part spec.part sees_word
-key-passed true ts p us (inl (u, middle, first, rest)) = ap (spec.part true) first ∙ ap spec.key (sym first)
-key-passed true ts p us (inr (u, middle, first, rest)) = ap (spec.part true) first ∙ ap spec.key (sym first)
+key-passed true ts p us (inl (u, middle, first, rest)) = ap (spec.part true) first.tokens ∙ ap spec.key (sym first.tokens)
+key-passed true ts p us (inr (u, middle, first, rest)) = ap (spec.part true) first.tokens ∙ ap spec.key (sym first.tokens)
 key-passed false ts p us nothing_spelt = absurd nothing_spelt
 
 pub part-known : (with_keys : Bool) (ts : Tokens) (p : grammar.Part) (us : Tokens) → grammar.part with_keys ts p us → spec.part with_keys ts ≡ Some (Some (meant p), us)
 unfolding grammar.part spec.part sees_word
 part-known with_keys ts p us (inl (u, middle, first, (v, last, second, (value, end)))) =
-    ap (spec.part with_keys) (first ∙ ap (λ vs. token.Word (codes "not") ∷ vs) second)
+    ap (spec.part with_keys) (two-tokens first second)
     ∙ same_read (Some (variant.Nulls nullability.NotNull)) (Some (meant p)) last us (ap (λ q. Some (meant q)) value) end
 part-known with_keys ts p us (inr (inl (u, middle, first, (value, end)))) =
-    ap (spec.part with_keys) first ∙ same_read (Some (variant.Nulls nullability.Null)) (Some (meant p)) middle us (ap (λ q. Some (meant q)) value) end
+    ap (spec.part with_keys) first.tokens ∙ same_read (Some (variant.Nulls nullability.Null)) (Some (meant p)) middle us (ap (λ q. Some (meant q)) value) end
 part-known with_keys ts p us (inr (inr (inl (u, middle, first, (given, last, front, (value, end)))))) =
-    ap (spec.part with_keys) first
+    ap (spec.part with_keys) first.tokens
     ∙ read_then (λ value. pure (Some (variant.Default value))) given last
     ((agrees-constant {S = ⊥} {n = length middle}).complete middle given last (omega arith) front (begins-clear nothing anything last refl (begins-anything last)))
     (same_read (Some (variant.Default given)) (Some (meant p)) last us (ap (λ q. Some (meant q)) value) end)
@@ -119,12 +119,12 @@ part-known with_keys ts p us (inr (inr (inr keyed))) = key-passed with_keys ts p
 
 pub part-takes : (with_keys : Bool) (ts : Tokens) (p : grammar.Part) (us : Tokens) → grammar.part with_keys ts p us → 1 + length us ≤ length ts
 unfolding grammar.part grammar.key_part
-part-takes with_keys ts p us (inl (u, middle, first, (v, last, second, (value, end)))) = let a = ap length first in let b = ap length second in let c = ap length end in omega (arith, a, b, c)
-part-takes with_keys ts p us (inr (inl (u, middle, first, (value, end)))) = let a = ap length first in let c = ap length end in omega (arith, a, c)
+part-takes with_keys ts p us (inl (u, middle, first, (v, last, second, (value, end)))) = let a = ap length first.tokens in let b = ap length second.tokens in let c = ap length end in omega (arith, a, b, c)
+part-takes with_keys ts p us (inr (inl (u, middle, first, (value, end)))) = let a = ap length first.tokens in let c = ap length end in omega (arith, a, c)
 part-takes with_keys ts p us (inr (inr (inl (u, middle, first, (given, last, front, (value, end)))))) =
-    let a = ap length first in let b = (agrees-constant {S = ⊥} {n = 0}).takes middle given last front in let c = ap length end in omega (arith, a, b, c)
-part-takes true ts p us (inr (inr (inr (inl (u, middle, first, (v, last, second, (value, end))))))) = let a = ap length first in let b = ap length second in let c = ap length end in omega (arith, a, b, c)
-part-takes true ts p us (inr (inr (inr (inr (u, middle, first, (value, end)))))) = let a = ap length first in let c = ap length end in omega (arith, a, c)
+    let a = ap length first.tokens in let b = (agrees-constant {S = ⊥} {n = 0}).takes middle given last front in let c = ap length end in omega (arith, a, b, c)
+part-takes true ts p us (inr (inr (inr (inl (u, middle, first, (v, last, second, (value, end))))))) = let a = ap length first.tokens in let b = ap length second.tokens in let c = ap length end in omega (arith, a, b, c)
+part-takes true ts p us (inr (inr (inr (inr (u, middle, first, (value, end)))))) = let a = ap length first.tokens in let c = ap length end in omega (arith, a, c)
 part-takes false ts p us (inr (inr (inr nothing_spelt))) = absurd nothing_spelt
 
 no-part : (with_keys : Bool) (ts : Tokens) → part_line with_keys ts None ts

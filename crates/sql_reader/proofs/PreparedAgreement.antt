@@ -62,7 +62,7 @@ looks-target = record {
 }
   where
     sure : (us : Tokens) (c : Command) (vs : Tokens) → target us c vs → follows us ≡ true
-    sure us c vs (inl (u, middle, here, same)) = or-right (sees_name us) (sees_word (codes "all") us) (ap (sees_word (codes "all")) here ∙ sees-word (codes "all") middle)
+    sure us c vs (inl (u, middle, here, same)) = or-right (sees_name us) (sees_word (codes "all") us) (ap (sees_word (codes "all")) here.tokens ∙ sees-word (codes "all") middle)
     sure us c vs (inr (n, middle, spelt, same)) = or-left (sees_name us) (sees_word (codes "all") us) (name-sees us n middle spelt)
 
 abbrev pub explain_heads : List Head

@@ -11,8 +11,7 @@ use Rattle.sql_tokens.specs.declared.token.Sign.TheVariants as sign
 use Rattle.sql_tree.specs.declared.command.Command.{Command}
 use Rattle.sql_tree.specs.declared.command.Command.TheVariants as command
 use Rattle.sql_expr.specs.Reading.{Text, Tokens, Parser, ◌>>=◌, pure, sees_word}
-use Rattle.sql_expr.specs.Lines.{Line, gives, ahead, unless, name, word as a_word, mark}
-use Rattle.sql_expr.proofs.Agreement.{one}
+use Rattle.sql_expr.specs.Lines.{Line, gives, ahead, unless, name, word as a_word, mark, Takes}
 use Rattle.sql_expr.specs.Lines as lines
 use Rattle.sql_expr.specs.Names.{is_reserved}
 use Rattle.sql_expr.specs.Names as names
@@ -21,7 +20,7 @@ use Rattle.sql_reader_session.specs.Settings.{text_of, is_setting_word}
 use Rattle.sql_reader_session.specs.Settings as spec
 use Rattle.sql_reader.specs.BlockGrammar as grammar
 use Rattle.sql_expr.proofs.Heads.{Barred, Head, bars, is}
-use Rattle.sql_expr.proofs.Agreement.{Agrees, Stands, nothing, bar_sign, agrees-pure, agrees-bind, agrees-same, agrees-word, agrees-taken, agrees-expect_sign}
+use Rattle.sql_expr.proofs.Agreement.{Agrees, Stands, nothing, bar_sign, agrees-pure, agrees-bind, agrees-same, agrees-word, agrees-taken, agrees-expect_sign, one, beginning, taking, ending}
 use Rattle.sql_expr.proofs.ListAgreement.{agrees-list}
 use Rattle.sql_expr.proofs.ExpressionAgreement.{agrees-name}
 use Rattle.sql_expr.proofs.TokenKinds.{free-word, word-free}
@@ -43,17 +42,17 @@ text-there : (ts : Tokens) (a : Text) (us : Tokens) → one text_of ts a us → 
 text-there ts a us (t, e, v) = by t e v
   where
     by-word : (w : Text) (on truth falsity reserved : Bool) → bytes_eq w (codes "on") ≡ on → bytes_eq w (codes "true") ≡ truth → bytes_eq w (codes "false") ≡ falsity → is_reserved w ≡ reserved
-        → ts ≡ token.Word w ∷ us → cond (on || truth || falsity || not reserved) (Some w) None ≡ Some a → grammar.setting_text ts a us
-    by-word w true truth falsity reserved o t f r e v = let same = (bytes_eq-Decides w (codes "on")).0 o in let value : a ≡ w = cc in inr (inr (inl (tt, us, subst (λ x. ts ≡ token.Word x ∷ us) same e, (value ∙ same, refl))))
-    by-word w false true falsity reserved o t f r e v = let same = (bytes_eq-Decides w (codes "true")).0 t in let value : a ≡ w = cc in inr (inr (inr (inl (tt, us, subst (λ x. ts ≡ token.Word x ∷ us) same e, (value ∙ same, refl)))))
-    by-word w false false true reserved o t f r e v = let same = (bytes_eq-Decides w (codes "false")).0 f in let value : a ≡ w = cc in inr (inr (inr (inr (tt, us, subst (λ x. ts ≡ token.Word x ∷ us) same e, (value ∙ same, refl)))))
+        → Takes (token.Word w) ts us → cond (on || truth || falsity || not reserved) (Some w) None ≡ Some a → grammar.setting_text ts a us
+    by-word w true truth falsity reserved o t f r e v = let same = (bytes_eq-Decides w (codes "on")).0 o in let value : a ≡ w = cc in inr (inr (inl (tt, us, taking e (ap token.Word same), (value ∙ same, refl))))
+    by-word w false true falsity reserved o t f r e v = let same = (bytes_eq-Decides w (codes "true")).0 t in let value : a ≡ w = cc in inr (inr (inr (inl (tt, us, taking e (ap token.Word same), (value ∙ same, refl)))))
+    by-word w false false true reserved o t f r e v = let same = (bytes_eq-Decides w (codes "false")).0 f in let value : a ≡ w = cc in inr (inr (inr (inr (tt, us, taking e (ap token.Word same), (value ∙ same, refl)))))
     by-word w false false false true o t f r e v = cc
-    by-word w false false false false o t f r e v = let is : w ≡ a = cc in inl (inl (e ∙ ap (λ x. token.Word x ∷ us) is, free-word a (subst (λ x. is_reserved x ≡ false) is r)))
+    by-word w false false false false o t f r e v = let is : w ≡ a = cc in inl (inl (taking e (ap token.Word is), free-word a (subst (λ x. is_reserved x ≡ false) is r)))
 
-    by : (t : Token) → ts ≡ t ∷ us → text_of t ≡ Some a → grammar.setting_text ts a us
+    by : (t : Token) → Takes t ts us → text_of t ≡ Some a → grammar.setting_text ts a us
     by (token.Word w) e v = by-word w (bytes_eq w (codes "on")) (bytes_eq w (codes "true")) (bytes_eq w (codes "false")) (is_reserved w) refl refl refl refl e v
-    by (token.Quoted q) e v = let is : q ≡ a = cc in inl (inr (e ∙ ap (λ x. token.Quoted x ∷ us) is))
-    by (token.Text x) e v = let is : x ≡ a = cc in inr (inl (e ∙ ap (λ y. token.Text y ∷ us) is))
+    by (token.Quoted q) e v = let is : q ≡ a = cc in inl (inr (taking e (ap token.Quoted is)))
+    by (token.Text x) e v = let is : x ≡ a = cc in inr (inl (taking e (ap token.Text is)))
     by t e v = cc
 
 text-back : (ts : Tokens) (a : Text) (us : Tokens) → grammar.setting_text ts a us → one text_of ts a us
@@ -67,9 +66,9 @@ text-back ts a us (inl (inl (e, r))) = (token.Word a, e, free (bytes_eq a (codes
     free false false false false q = refl
 text-back ts a us (inl (inr e)) = (token.Quoted a, e, refl)
 text-back ts a us (inr (inl e)) = (token.Text a, e, refl)
-text-back ts a us (inr (inr (inl (u, middle, e, same)))) = (token.Word (codes "on"), subst (λ vs. ts ≡ token.Word (codes "on") ∷ vs) (sym same.1) e, ap Some (sym same.0))
-text-back ts a us (inr (inr (inr (inl (u, middle, e, same))))) = (token.Word (codes "true"), subst (λ vs. ts ≡ token.Word (codes "true") ∷ vs) (sym same.1) e, ap Some (sym same.0))
-text-back ts a us (inr (inr (inr (inr (u, middle, e, same))))) = (token.Word (codes "false"), subst (λ vs. ts ≡ token.Word (codes "false") ∷ vs) (sym same.1) e, ap Some (sym same.0))
+text-back ts a us (inr (inr (inl (u, middle, e, same)))) = (token.Word (codes "on"), ending e (sym same.1), ap Some (sym same.0))
+text-back ts a us (inr (inr (inr (inl (u, middle, e, same))))) = (token.Word (codes "true"), ending e (sym same.1), ap Some (sym same.0))
+text-back ts a us (inr (inr (inr (inr (u, middle, e, same))))) = (token.Word (codes "false"), ending e (sym same.1), ap Some (sym same.0))
 
 stands-text : Stands text_of grammar.setting_text text_heads bar_texts
 stands-text = record { shows = shows; none = none; there = text-there; back = text-back }
@@ -138,7 +137,7 @@ module _ {n : ℕ} where
   agrees-expect_to = agrees-same there back (agrees-word (codes "to") (agrees-pure tt nothing) (agrees-expect_sign sign.Equal) refl)
     where
       there : (ts : Tokens) (u : Unit {0}) (us : Tokens) → (lines.◌or◌ (lines.◌>>◌ (a_word (codes "to")) (gives tt)) (mark sign.Equal)) ts u us → (lines.◌or◌ (a_word (codes "to")) (mark sign.Equal)) ts u us
-      there ts u us (inl (v, middle, front, same)) = inl (subst (λ vs. ts ≡ token.Word (codes "to") ∷ vs) (sym same.1) front)
+      there ts u us (inl (v, middle, front, same)) = inl (ending front (sym same.1))
       there ts u us (inr equal) = inr equal
 
       back : (ts : Tokens) (u : Unit {0}) (us : Tokens) → (lines.◌or◌ (a_word (codes "to")) (mark sign.Equal)) ts u us → (lines.◌or◌ (lines.◌>>◌ (a_word (codes "to")) (gives tt)) (mark sign.Equal)) ts u us
@@ -161,21 +160,21 @@ ordered = lines.◌or◌ (lines.◌>>◌ (a_word (codes "local")) (lines.◌>>�
 set-there : (ts : Tokens) (c : Command) (us : Tokens) → ordered ts c us → grammar.set ts c us
 unfolding grammar.set
 set-there ts c us (inl (u, middle, here, (v, start, front, rest))) = (true, start, inr (inl (u, middle, here, (v, start, front, (refl, refl)))), rest)
-set-there ts c us (inr (x, first, none, inl (u, middle, here, (v, start, front, rest)))) = (false, start, inl (u, middle, sym none.0 ∙ here, (v, start, front, (refl, refl))), rest)
+set-there ts c us (inr (x, first, none, inl (u, middle, here, (v, start, front, rest)))) = (false, start, inl (u, middle, beginning none.0 here, (v, start, front, (refl, refl))), rest)
 set-there ts c us (inr (x, first, none, inr (y, second, neither, rest))) =
     (false, second, inr (inr (tt, second, (neither.0 ∙ none.0, both), (refl, refl))), rest)
   where
     both : (a : Text) (vs : Tokens) → ¬ (lines.◌>>◌ (lines.◌or◌ (a_word (codes "session")) (a_word (codes "local"))) name) ts a vs
-    both a vs (u, middle, inl session, named) = neither.1 a vs (u, middle, none.0 ∙ session, named)
+    both a vs (u, middle, inl session, named) = neither.1 a vs (u, middle, beginning (sym none.0) session, named)
     both a vs (u, middle, inr local, named) = none.1 a vs (u, middle, local, named)
 
 moved : (local wanted : Bool) (middle start : Tokens) (c : Command) (us : Tokens) → (local ≡ wanted) × (middle ≡ start) → scoped local middle c us → scoped wanted start c us
 moved local wanted middle start c us same rest = subst (λ l. scoped l start c us) same.0 (subst (λ vs. scoped local vs c us) same.1 rest)
 
 -- SESSION is not LOCAL
-not-local : (ts middle : Tokens) → ts ≡ token.Word (codes "session") ∷ middle → (a : Text) (vs : Tokens) → ¬ (lines.◌>>◌ (a_word (codes "local")) name) ts a vs
+not-local : (ts middle : Tokens) → Takes (token.Word (codes "session")) ts middle → (a : Text) (vs : Tokens) → ¬ (lines.◌>>◌ (a_word (codes "local")) name) ts a vs
 unfolding sees_word
-not-local ts middle here a vs (u, last, local, named) = let clash : true ≡ false = ap (sees_word (codes "local")) (sym local ∙ here) in cc
+not-local ts middle here a vs (u, last, local, named) = let clash : true ≡ false = ap (sees_word (codes "local")) (sym local.tokens ∙ here.tokens) in cc
 
 set-back : (ts : Tokens) (c : Command) (us : Tokens) → grammar.set ts c us → ordered ts c us
 unfolding grammar.set

@@ -16,7 +16,7 @@ use Rattle.sql_reader_query.specs.Statements as spec
 use Rattle.sql_reader.specs.ChangeGrammar as grammar
 use Rattle.sql_reader.specs.QueryGrammar as query
 use Rattle.sql_expr.proofs.Heads.{Barred, Head, and-left, and-right}
-use Rattle.sql_expr.proofs.Agreement.{Agrees, word-seen, agrees-pure, agrees-bind, agrees-same, agrees-wider, agrees-fewer, agrees-word}
+use Rattle.sql_expr.proofs.Agreement.{Agrees, word-seen, agrees-pure, agrees-bind, agrees-same, agrees-wider, agrees-fewer, agrees-word, two-tokens}
 use Rattle.sql_reader.proofs.OptionalAgreement.{also, agrees-read, agrees-looking-unless}
 use Rattle.sql_reader.proofs.QueryAgreement.{select_tail, agrees-selection}
 use Rattle.sql_reader.proofs.ChangeAgreement.{changed_line, changed-there, changed-back, where_tail, returning_tail, agrees-insertion, agrees-change, agrees-searched, agrees-positioned}
@@ -34,16 +34,16 @@ position-seen ts e =
     let first = word-seen (codes "where") ts (and-left (sees_word (codes "where") ts) (sees_word (codes "current") (drop 1 ts)) sooner) in
     let second = word-seen (codes "current") (drop 1 ts) (and-right (sees_word (codes "where") ts) (sees_word (codes "current") (drop 1 ts)) sooner) in
     let third = word-seen (codes "of") (drop 1 (drop 1 ts)) (and-right (sees_word (codes "where") ts && sees_word (codes "current") (drop 1 ts)) (sees_word (codes "of") (drop 1 (drop 1 ts))) e) in
-    record { rest = drop 1 (drop 1 (drop 1 ts)); same = first ∙ ap (λ vs. token.Word (codes "where") ∷ vs) (second ∙ ap (λ vs. token.Word (codes "current") ∷ vs) third) }
+    record { rest = drop 1 (drop 1 (drop 1 ts)); same = first.tokens ∙ ap (λ vs. token.Word (codes "where") ∷ vs) (two-tokens second third) }
 
 current-there : (ts : Tokens) → spec_changes.sees_position ts ≡ true → (u : Unit {0}) × (vs : Tokens) × grammar.current_of ts u vs
-current-there ts e = let p = position-seen ts e in (tt, p.rest, (tt, token.Word (codes "of") ∷ p.rest, (tt, token.Word (codes "current") ∷ token.Word (codes "of") ∷ p.rest, p.same, refl), refl))
+current-there ts e = let p = position-seen ts e in (tt, p.rest, (tt, token.Word (codes "of") ∷ p.rest, (tt, token.Word (codes "current") ∷ token.Word (codes "of") ∷ p.rest, record { tokens = p.same }, record { tokens = refl }), record { tokens = refl }))
 
 sees-current : (ts : Tokens) (u : Unit {0}) (vs : Tokens) → grammar.current_of ts u vs → spec_changes.sees_position ts ≡ true
 unfolding spec_changes.sees_position sees_word
 sees-current ts u vs (v, behind_current, (x, behind_where, where_word, current), of) =
     let same : ts ≡ token.Word (codes "where") ∷ token.Word (codes "current") ∷ token.Word (codes "of") ∷ vs
-    = where_word ∙ ap (λ ws. token.Word (codes "where") ∷ ws) (current ∙ ap (λ ws. token.Word (codes "current") ∷ ws) of) in
+    = where_word.tokens ∙ ap (λ ws. token.Word (codes "where") ∷ ws) (two-tokens current of) in
     ap spec_changes.sees_position same
 
 sees-position : (c : Change) (ts : Tokens) (b : Command) (us : Tokens) → (lines.◌<$>◌ command.Positioned (grammar.positioned (spec_changes.statement_of c))) ts b us → spec_changes.sees_position ts ≡ true
