@@ -1,5 +1,5 @@
 -- Expressions are read exactly where they are spelt.
-use Rattle.std.proofs.Common.{◌≡◌, inl, inr, ℕ, zero, suc, ◌+◌, ◌≤◌, Bool, true, false, cond, not, ◌||◌, List, [], ◌∷◌, ◌++◌, length, Some, None, codes, refl, sym, subst, ◌∙◌, arith}
+use Rattle.std.proofs.Common.{◌≡◌, inl, inr, ℕ, zero, suc, ◌+◌, ◌≤◌, Bool, true, false, cond, not, ◌||◌, List, [], ◌∷◌, ◌++◌, length, Some, None, codes, refl, sym, ap, subst, ◌∙◌, arith}
 use Rattle.sql_tokens.specs.declared.token.Token.TheVariants as token
 use Rattle.sql_tokens.specs.declared.token.Sign.TheVariants as sign
 use Rattle.sql_tree.specs.declared.expr.Expr.{Expr}
@@ -110,15 +110,17 @@ module _ {S : Type 0} {n : ℕ} (deeper : Level → Parser Expr) (nested : Level
       inr (inr (inr (inl (first, middle, front, (u, behind, opened, (e.CallStar first, after, inl (v, after, starred, (refl, refl)), (w, last, closed, (value, end))))))))
   primary-there ts x us (inr (inr (first, middle, front, inl (u, behind, opened, inr (argument, after, inner, (w, last, closed, (value, end))))))) =
       inr (inr (inr (inl (first, middle, front, (u, behind, opened, (e.Call first argument, after, inr (argument, after, inner, (refl, refl)), (w, last, closed, (value, end))))))))
-  primary-there ts x us (inr (inr (first, middle, front, inr (inl dotted)))) = inr (inr (inl (inl (first, middle, front, dotted))))
-  primary-there ts x us (inr (inr (first, middle, front, inr (inr alone)))) = inr (inr (inl (inr (first, middle, front, alone))))
+  primary-there ts x us (inr (inr (first, middle, front, inr (inl (u, behind, dot, (second, last, ended, given)))))) =
+      inr (inr (inl (record { item = Some first; name = second }, last, inl (first, middle, front, (u, behind, dot, (second, last, ended, (refl, refl)))), given)))
+  primary-there ts x us (inr (inr (first, middle, front, inr (inr given)))) = inr (inr (inl (record { item = None; name = first }, middle, inr (first, middle, front, (refl, refl)), given)))
 
   primary-back : (ts : Tokens) (x : Expr) (us : Tokens) → grammar.primary nested ts x us → any_operand ts x us
   unfolding grammar.primary grammar.column
   primary-back ts x us (inl found) = inr (inl (x, us, inl found, (refl, refl)))
   primary-back ts x us (inr (inl found)) = inr (inl (x, us, inr found, (refl, refl)))
-  primary-back ts x us (inr (inr (inl (inl (first, middle, front, dotted))))) = inr (inr (first, middle, front, inr (inl dotted)))
-  primary-back ts x us (inr (inr (inl (inr (first, middle, front, alone))))) = inr (inr (first, middle, front, inr (inr alone)))
+  primary-back ts x us (inr (inr (inl (c, end_of_column, inl (first, middle, front, (u, behind, dot, (second, last, ended, (same, here)))), (value, end))))) =
+      inr (inr (first, middle, front, inr (inl (u, behind, dot, (second, last, ended, (value ∙ ap e.Column same, end ∙ here))))))
+  primary-back ts x us (inr (inr (inl (c, end_of_column, inr (first, middle, front, (same, here)), (value, end))))) = inr (inr (first, middle, front, inr (inr (value ∙ ap e.Column same, end ∙ here))))
   primary-back ts x us (inr (inr (inr (inl (first, middle, front, (u, behind, opened, (c, after, inl (v, starred_end, starred, (same, here)), (w, last, closed, (value, end))))))))) =
       inr (inr (first, middle, front, inl (u, behind, opened, inl (v, starred_end, starred, (w, last, beginning here closed, (value ∙ same, end))))))
   primary-back ts x us (inr (inr (inr (inl (first, middle, front, (u, behind, opened, (c, after, inr (argument, inner_end, inner, (same, here)), (w, last, closed, (value, end))))))))) =

@@ -147,8 +147,8 @@ frames-operator s value = frames-bind (frames-mark s) (λ u. frames-gives value)
 frames-column : Frames grammar.column
 unfolding grammar.column
 frames-column = frames-or
-    (frames-bind frames-name (λ item. frames-bind (frames-mark sign.Dot) (λ u. frames-bind frames-name (λ second. frames-gives (e.Column (record { item = Some item; name = second }))))))
-    (frames-mapped (λ only. e.Column (record { item = None; name = only })) frames-name)
+    (frames-bind frames-name (λ item. frames-bind (frames-mark sign.Dot) (λ u. frames-bind frames-name (λ second. frames-gives (record { item = Some item; name = second })))))
+    (frames-mapped (λ only. record { item = None; name = only }) frames-name)
 
 frames-comparison_operator : Frames grammar.comparison_operator
 frames-comparison_operator = frames-or (frames-operator sign.Equal Equal) (frames-or (frames-operator sign.NotEqual NotEqual) (frames-or (frames-operator sign.Less Less)
@@ -165,7 +165,7 @@ module _ (nested : Level → Line Expr) (below : (level : Level) → Frames (nes
 
   frames-primary : Frames (grammar.primary nested)
   unfolding grammar.primary
-  frames-primary = frames-or (frames-mapped e.Literal frames-literal) (frames-or (frames-mapped e.Param frames-parameter) (frames-or frames-column (frames-or frames-call frames-parenthesized)))
+  frames-primary = frames-or (frames-mapped e.Literal frames-literal) (frames-or (frames-mapped e.Param frames-parameter) (frames-or (frames-mapped e.Column frames-column) (frames-or frames-call frames-parenthesized)))
 
   abbrev minus_of_none : Line Expr
   minus_of_none = lines.◌>>◌ (mark sign.Minus) (lines.◌>>◌ (unless number) (lines.◌<$>◌ e.Minus (nested Signed)))

@@ -70,7 +70,7 @@ module _ {S : Type 0} {n : ℕ} {operator_of : Token → Option Arithmetic} {T :
       let front = each.sound s parts.middle operand.a operand.middle operand.begun in
       record {
         others = (some.0, operand.a) ∷ rest.others;
-        back = (operand.middle, (some.0, parts.middle, stands.there ts some.0 parts.middle some.2, (operand.a, operand.middle, front, (refl, refl))), rest.back);
+        back = (operand.middle, (some.0, parts.middle, stands.there ts some.0 parts.middle some.2, (operand.a, operand.middle, front, (refl {a = (some.0, operand.a)}, refl {a = operand.middle}))), rest.back);
         value = rest.value;
       })
       (λ none.

@@ -1,6 +1,7 @@
 -- The grammar of expressions: which tokens spell one, line by line.
 use Rattle.std.specs.Prelude.{◌≡◌, ◌⊎◌, ◌<◌, ℕ, zero, suc, Bool, true, false, List, [], ◌∷◌, length, Some, None}
 use Rattle.sql_tokens.specs.declared.token.Sign.TheVariants as sign
+use Rattle.sql_tree.specs.declared.names.ColumnRef.{ColumnRef}
 use Rattle.sql_tree.specs.declared.expr.{Arithmetic.Arithmetic, Comparison.Comparison, Expr.Expr, Literal.Literal}
 use Rattle.sql_tree.specs.declared.expr.Arithmetic.TheVariants.{Add, Subtract, Multiply, Divide}
 use Rattle.sql_tree.specs.declared.expr.Comparison.TheVariants.{Equal, NotEqual, Less, LessEqual, Greater, GreaterEqual}
@@ -13,9 +14,9 @@ abbrev pub literal : Line Literal
 literal = (λ digits. literal_of.Number (record { negative = false; digits = digits })) <$> number or literal_of.Text <$> string
     or key "null" >> gives literal_of.Null or key "true" >> gives (literal_of.Bool true) or key "false" >> gives (literal_of.Bool false)
 
-unfoldable pub column : Line Expr
-column = (do item ← name; mark sign.Dot; second ← name; gives (e.Column (record { item = Some item; name = second })))
-    or (λ only. e.Column (record { item = None; name = only })) <$> name
+unfoldable pub column : Line ColumnRef
+column = (do item ← name; mark sign.Dot; second ← name; gives (record { item = Some item; name = second }))
+    or (λ only. record { item = None; name = only }) <$> name
 
 -- ---- operators
 
@@ -55,7 +56,7 @@ module _ (nested : Level → Line Expr) where
     parenthesized (mark sign.Star >> gives (e.CallStar function) or e.Call function <$> nested Whole)
 
   unfoldable pub primary : Line Expr
-  primary = e.Literal <$> literal or e.Param <$> parameter or column or call or parenthesized (nested Whole)
+  primary = e.Literal <$> literal or e.Param <$> parameter or e.Column <$> column or call or parenthesized (nested Whole)
 
   -- a `-` directly before a number makes a negative literal
   unfoldable pub signed : Line Expr

@@ -62,6 +62,10 @@ nowhere ts a us = ⊥
 abbrev pub gives : {A : Type 0} → A → Line A
 gives value ts a us = (a ≡ value) × (us ≡ ts)
 
+-- where the test holds
+abbrev pub provided : Bool → Line (Unit {0})
+provided holds ts u us = (us ≡ ts) × (holds ≡ true)
+
 -- `(before P)`: where P comes next
 abbrev pub ahead : {A : Type 0} → Line A → Line (Unit {0})
 ahead {A = A} P ts u us = (us ≡ ts) × ((a : A) × (vs : Tokens) × P ts a vs)

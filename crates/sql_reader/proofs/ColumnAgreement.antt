@@ -116,7 +116,7 @@ parts-take with_keys ts (p ∷ parts) us spelt =
 
 -- behind a column's name and type
 abbrev parted : Bool → Text → Text → Line ColumnDef
-parted with_keys column type_name = lines.◌>>=◌ (many (grammar.part with_keys)) (λ parts. lines.◌>>◌ (grammar.provided (grammar.none_twice parts)) (gives (defined column type_name parts)))
+parted with_keys column type_name = lines.◌>>=◌ (many (grammar.part with_keys)) (λ parts. lines.◌>>◌ (lines.provided (grammar.none_twice parts)) (gives (defined column type_name parts)))
 
 module _ {n : ℕ} (with_keys : Bool) where
   agrees-parts : (column type_name : Text) → Agrees (Unit {0}) n (spec.parts with_keys (spec.bare column type_name)) (parted with_keys column type_name) 0 anything part_words

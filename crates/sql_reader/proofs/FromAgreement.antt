@@ -1,5 +1,5 @@
 -- What stands behind FROM is read exactly where it is spelt.
-use Rattle.std.proofs.Common.{◌≡◌, inl, inr, ℕ, true, false, cond, [], ◌∷◌, Option, Some, None, codes, refl, sym, ◌∙◌, arith}
+use Rattle.std.proofs.Common.{◌≡◌, inl, inr, ℕ, true, false, cond, [], ◌∷◌, Option, Some, None, codes, refl, arith}
 use Rattle.sql_tokens.specs.declared.token.Sign.TheVariants as sign
 use Rattle.sql_tree.specs.declared.select.Join.{Join}
 use Rattle.sql_tree.specs.declared.select.Join.TheVariants.{Inner, Cross}

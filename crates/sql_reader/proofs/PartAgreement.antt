@@ -1,6 +1,5 @@
 -- The parts of a column's definition are read exactly where they are spelt, none of them twice.
 use Rattle.std.proofs.Common.{◌≡◌, ◌⊎◌, inl, inr, ℕ, ◌+◌, ◌≤◌, Bool, true, false, cond, List, [], ◌∷◌, ◌++◌, length, Option, Some, None, codes, refl, sym, ap, ◌∙◌, arith}
-use Rattle.sql_tokens.specs.declared.token.Token.TheVariants as token
 use Rattle.sql_tree.specs.declared.catalog.KeyKind.TheVariants as kind
 use Rattle.sql_tree.specs.declared.catalog.Nullability.TheVariants as nullability
 use Rattle.sql_expr.specs.Reading.{Tokens, Parser, pure, sees_word}

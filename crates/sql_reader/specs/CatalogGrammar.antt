@@ -1,5 +1,5 @@
 -- The grammar of the catalog's commands, each behind its leading word.
-use Rattle.std.specs.Prelude.{◌≡◌, Bool, true, false, not, ◌&&◌, List, [], ◌∷◌, Option, Some, None, if◌then◌else◌}
+use Rattle.std.specs.Prelude.{Bool, true, false, not, ◌&&◌, List, [], ◌∷◌, Option, Some, None, if◌then◌else◌}
 use Rattle.std.specs.List.{list_any}
 use denote.Enum.Bare.{sameb}
 use Rattle.sql_tokens.specs.declared.token.Sign.TheVariants as sign
@@ -16,7 +16,7 @@ use Rattle.sql_tree.specs.declared.catalog.TableElement.TheVariants as element_o
 use Rattle.sql_tree.specs.declared.command.Command.TheVariants as command
 use Rattle.sql_tree.specs.declared.expr.Literal.TheVariants as literal_of
 use Rattle.sql_tree.specs.declared.statement.Statement.TheVariants as statement
-use Rattle.sql_expr.specs.Lines.{Text, Line, ◌>>=◌, ◌>>◌, ◌<$>◌, ◌or◌, nowhere, gives, name, number, key, mark, ahead, before, maybe, any, said, many, list}
+use Rattle.sql_expr.specs.Lines.{Text, Line, ◌>>=◌, ◌>>◌, ◌<$>◌, ◌or◌, nowhere, gives, name, number, key, mark, ahead, before, maybe, any, said, many, list, provided}
 use Rattle.sql_expr.specs.Grammar.{literal}
 use Rattle.sql_reader.specs.QueryGrammar.{relation, parenthesized_names, select}
 
@@ -68,10 +68,6 @@ abbrev pub keys_of : List Part → List KeyKind
 keys_of [] = []
 keys_of (Part.keyed key ∷ parts) = key ∷ keys_of parts
 keys_of (_ ∷ parts) = keys_of parts
-
--- no token, where the test holds
-abbrev pub provided : Bool → Line (Unit {0})
-provided holds ts u us = (us ≡ ts) × (holds ≡ true)
 
 unfoldable pub column_def : Bool → Line ColumnDef
 column_def with_keys = do

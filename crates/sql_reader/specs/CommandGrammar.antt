@@ -1,5 +1,5 @@
 -- The grammar of commands: which tokens spell one. One of SQL begins with its leading word, others with a backslash.
-use Rattle.std.specs.Prelude.{◌≡◌, ◌≤◌, ◌<◌, ◌⊎◌, List, [], ◌∷◌, Result, Ok, Err, codes}
+use Rattle.std.specs.Prelude.{◌≡◌, ◌≤◌, ◌<◌, ◌⊎◌, List, [], Result, Ok, Err, codes}
 use Prim.Native.String.{String}
 use Rattle.q_base.specs.declared.code.Code.TheVariants.{StackDepthExceeded, SyntaxError}
 use Rattle.q_base.specs.declared.errors.SqlError.{SqlError}

@@ -1,22 +1,19 @@
 -- The grammar of names of relations and columns, and of queries. (`key` is one of ORDER BY, so a keyword is `keyword` here.)
 use Rattle.std.specs.Prelude.{Bool, true, false, List, Option, Some, None}
 use Rattle.sql_tokens.specs.declared.token.Sign.TheVariants as sign
-use Rattle.sql_tree.specs.declared.{expr.Numeral.Numeral, names.ColumnRef.ColumnRef, names.QName.QName}
+use Rattle.sql_tree.specs.declared.{expr.Numeral.Numeral, names.QName.QName}
 use Rattle.sql_tree.specs.declared.select.{FromChain.FromChain, FromItem.FromItem, Grouping.Grouping, Join.Join, Limits.Limits, OrderItem.OrderItem, OutputItem.OutputItem, RowCount.RowCount, Select.Select, SelectCore.SelectCore}
 use Rattle.sql_tree.specs.declared.select.Join.TheVariants.{Inner, Cross}
 use Rattle.sql_tree.specs.declared.select.OutputItem.TheVariants as output_item
 use Rattle.sql_tree.specs.declared.select.RowCount.TheVariants.{Number, Param, Null}
 use Rattle.sql_expr.specs.Lines.{Text, Line, ◌>>=◌, ◌>>◌, ◌<$>◌, ◌or◌, gives, key as keyword, mark, name, number, parameter, maybe, any, said, many, list, parenthesized}
-use Rattle.sql_expr.specs.Grammar.{expression}
+use Rattle.sql_expr.specs.Grammar.{expression, column}
 
 unfoldable pub qualified : Line (Option Text × Text)
 qualified = (do first ← name; mark sign.Dot; second ← name; gives (Some first, second)) or (λ only. (None, only)) <$> name
 
 unfoldable pub relation : Line QName
 relation = (λ q. record { schema = q.0; name = q.1 }) <$> qualified
-
-unfoldable pub column : Line ColumnRef
-column = (λ q. record { item = q.0; name = q.1 }) <$> qualified
 
 unfoldable pub parenthesized_names : Line (List Text)
 parenthesized_names = parenthesized (list name)
