@@ -13,7 +13,7 @@ use Rattle.sql_tokens.specs.declared.token.Token.TheVariants as token
 use Rattle.sql_tokens.specs.declared.token.Sign.{Sign}
 use Rattle.sql_tokens.specs.contracts.token.Sign.{the_type}
 use Rattle.sql_expr.specs.Reading.{Text, Tokens, Outcome, Parser, and_then, ◌>>=◌, pure, refuse, taken, taken_first, required, behind, eat_word, eat_sign, expect_word, expect_sign, sees_word, sees_sign, same_sign}
-use Rattle.sql_expr.specs.Lines.{Line, Takes, nowhere, gives, unless, word as a_word, mark}
+use Rattle.sql_expr.specs.Lines.{Line, TakesToken, nowhere, gives, unless, word as a_word, mark}
 use Rattle.sql_expr.specs.Lines as lines
 use Rattle.sql_expr.proofs.Heads.{Barred, Head, bars, clear, is, begins, all_avoid, begins-clear, clear-begins, begins-left, begins-right, not-true}
 pub use Rattle.sql_expr.proofs.Leaving.{Parts, bind_some, same_rest}
@@ -127,24 +127,24 @@ agrees-fewer least within all = record {
 -- ---- single tokens
 
 -- the same tokens before it, the same token, the same tokens behind it
-pub beginning : {t : Token} {ts vs us : Tokens} → ts ≡ vs → Takes t ts us → Takes t vs us
-beginning {t = t} {us = us} same front = subst (λ xs. Takes t xs us) same front
+pub beginning : {t : Token} {ts vs us : Tokens} → ts ≡ vs → TakesToken t ts us → TakesToken t vs us
+beginning {t = t} {us = us} same front = subst (λ xs. TakesToken t xs us) same front
 
-pub taking : {t r : Token} {ts us : Tokens} → Takes t ts us → t ≡ r → Takes r ts us
-taking {ts = ts} {us = us} front same = subst (λ x. Takes x ts us) same front
+pub taking : {t r : Token} {ts us : Tokens} → TakesToken t ts us → t ≡ r → TakesToken r ts us
+taking {ts = ts} {us = us} front same = subst (λ x. TakesToken x ts us) same front
 
-pub ending : {t : Token} {ts us vs : Tokens} → Takes t ts us → us ≡ vs → Takes t ts vs
-ending {t = t} {ts = ts} front same = subst (λ xs. Takes t ts xs) same front
+pub ending : {t : Token} {ts us vs : Tokens} → TakesToken t ts us → us ≡ vs → TakesToken t ts vs
+ending {t = t} {ts = ts} front same = subst (λ xs. TakesToken t ts xs) same front
 
 -- one token behind another
-pub two-tokens : {t r : Token} {ts middle us : Tokens} → Takes t ts middle → Takes r middle us → ts ≡ t ∷ r ∷ us
+pub two-tokens : {t r : Token} {ts middle us : Tokens} → TakesToken t ts middle → TakesToken r middle us → ts ≡ t ∷ r ∷ us
 two-tokens {t = t} first second = first.tokens ∙ ap (λ vs. t ∷ vs) second.tokens
 
 same_token_word : (w v : Text) → bytes_eq v w ≡ true → token.Word v ≡ token.Word w
 same_token_word w v e = ap token.Word ((bytes_eq-Decides v w).0 e)
 
 -- the next token is the word, and no other
-pub word-seen : (w : Text) (ts : Tokens) → sees_word w ts ≡ true → Takes (token.Word w) ts (drop 1 ts)
+pub word-seen : (w : Text) (ts : Tokens) → sees_word w ts ≡ true → TakesToken (token.Word w) ts (drop 1 ts)
 unfolding sees_word
 word-seen w (token.Word v ∷ ts) e = record { tokens = ap (λ t. t ∷ ts) (same_token_word w v e) }
 word-seen w (token.Quoted v ∷ ts) e = cc
@@ -174,7 +174,7 @@ sees-no-word w (token.Param v ∷ ts) c = refl
 sees-no-word w (token.Backslash v ∷ ts) c = refl
 sees-no-word w [] c = refl
 
-pub sign-seen : (s : Sign) (ts : Tokens) → sees_sign s ts ≡ true → Takes (token.Sign s) ts (drop 1 ts)
+pub sign-seen : (s : Sign) (ts : Tokens) → sees_sign s ts ≡ true → TakesToken (token.Sign s) ts (drop 1 ts)
 unfolding sees_sign
 sign-seen s (token.Sign r ∷ ts) e = record { tokens = ap (λ x. token.Sign x ∷ ts) (same_true the_type tt r s e) }
 sign-seen s (token.Word v ∷ ts) e = cc
@@ -354,7 +354,7 @@ agrees-behind {p = p} {f = f} {k = k} {m = m} {inner = inner} {stop = stop} firs
 -- ---- a token that stands for a value
 
 abbrev pub one : {A : Type 0} → (Token → Option A) → Line A
-one value_of ts a us = (t : Token) × Takes t ts us × (value_of t ≡ Some a)
+one value_of ts a us = (t : Token) × TakesToken t ts us × (value_of t ≡ Some a)
 
 abbrev pub stands_for : {A : Type 0} → (Token → Option A) → Tokens → Bool
 stands_for value_of [] = false

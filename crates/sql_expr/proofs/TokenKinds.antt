@@ -19,7 +19,7 @@ use Rattle.sql_expr.specs.Reading.{Text, Tokens}
 use Rattle.sql_expr.specs.Literals.{digits_of, literal_of, constant_of, constant_of_literal}
 use Rattle.sql_expr.specs.Operators.{comparison_of, additive_of, multiplicative_of}
 use Rattle.sql_expr.specs.Names.{is_reserved, name_of}
-use Rattle.sql_expr.specs.Lines.{reserved_words, Line, Takes, gives, mark, word as a_word, name, number, parameter}
+use Rattle.sql_expr.specs.Lines.{reserved_words, Line, TakesToken, gives, mark, word as a_word, name, number, parameter}
 use Rattle.sql_expr.specs.Lines as lines
 use Rattle.sql_expr.specs.Grammar as grammar
 use Rattle.sql_expr.proofs.Heads.{Barred, Head, bars, is}
@@ -30,13 +30,13 @@ use Rattle.sql_expr.proofs.Agreement.{Stands, one, taking, ending}
 unsome : {A : Type 0} (a b : A) → Some a ≡ Some b → b ≡ a
 unsome a b e = cc
 
-pub mark-gives : {A : Type 0} (s : Sign) (value a : A) (ts us : Tokens) → Takes (token.Sign s) ts us → Some value ≡ Some a → (lines.◌>>◌ (mark s) (gives value)) ts a us
+pub mark-gives : {A : Type 0} (s : Sign) (value a : A) (ts us : Tokens) → TakesToken (token.Sign s) ts us → Some value ≡ Some a → (lines.◌>>◌ (mark s) (gives value)) ts a us
 mark-gives s value a ts us same v = (tt, us, same, (unsome value a v, refl))
 
 pub gives-mark : {A : Type 0} {value_of : Token → Option A} (s : Sign) (value a : A) (ts us : Tokens) → value_of (token.Sign s) ≡ Some value → (lines.◌>>◌ (mark s) (gives value)) ts a us → one value_of ts a us
 gives-mark s value a ts us known (u, middle, same, (v, end)) = (token.Sign s, ending same (sym end), known ∙ ap Some (sym v))
 
-pub word-gives : {A : Type 0} (w v : Text) (value a : A) (ts us : Tokens) → bytes_eq w v ≡ true → Takes (token.Word w) ts us → Some value ≡ Some a → (lines.◌>>◌ (a_word v) (gives value)) ts a us
+pub word-gives : {A : Type 0} (w v : Text) (value a : A) (ts us : Tokens) → bytes_eq w v ≡ true → TakesToken (token.Word w) ts us → Some value ≡ Some a → (lines.◌>>◌ (a_word v) (gives value)) ts a us
 word-gives w v value a ts us q same found = (tt, us, taking same (ap token.Word ((bytes_eq-Decides w v).0 q)), (unsome value a found, refl))
 
 pub gives-word : {A : Type 0} {value_of : Token → Option A} (w : Text) (value a : A) (ts us : Tokens) → value_of (token.Word w) ≡ Some value → (lines.◌>>◌ (a_word w) (gives value)) ts a us → one value_of ts a us
@@ -95,11 +95,11 @@ stands-name = record {
     by (token.Quoted q) b = cc
     by t b = refl
 
-    there-word : (w a : Text) (ts us : Tokens) (r : Bool) → is_reserved w ≡ r → Takes (token.Word w) ts us → cond r None (Some w) ≡ Some a → name ts a us
+    there-word : (w a : Text) (ts us : Tokens) (r : Bool) → is_reserved w ≡ r → TakesToken (token.Word w) ts us → cond r None (Some w) ≡ Some a → name ts a us
     there-word w a ts us true q same v = cc
     there-word w a ts us false q same v = let is : w ≡ a = cc in inl (taking same (ap token.Word is), free-word a (subst (λ x. is_reserved x ≡ false) is q))
 
-    there : (ts : Tokens) (a : Text) (us : Tokens) (t : Token) → Takes t ts us → name_of t ≡ Some a → name ts a us
+    there : (ts : Tokens) (a : Text) (us : Tokens) (t : Token) → TakesToken t ts us → name_of t ≡ Some a → name ts a us
     there ts a us (token.Word w) same v = there-word w a ts us (is_reserved w) refl same v
     there ts a us (token.Quoted q) same v = let is : q ≡ a = cc in inr (taking same (ap token.Quoted is))
     there ts a us t same v = cc
@@ -122,7 +122,7 @@ stands-number = record { shows = shows; none = none; there = λ ts a us spelt. t
     none (token.Number d) b = cc
     none t b = refl
 
-    there : (ts : Tokens) (a : Text) (us : Tokens) (t : Token) → Takes t ts us → digits_of t ≡ Some a → number ts a us
+    there : (ts : Tokens) (a : Text) (us : Tokens) (t : Token) → TakesToken t ts us → digits_of t ≡ Some a → number ts a us
     there ts a us (token.Number d) same v = let is : d ≡ a = cc in taking same (ap token.Number is)
     there ts a us t same v = cc
 
@@ -155,7 +155,7 @@ stands-comparison = record { shows = shows; none = none; there = λ ts a us spel
     none (token.Sign sign.GreaterEqual) b = cc
     none t b = refl
 
-    there : (ts : Tokens) (a : Comparison) (us : Tokens) (t : Token) → Takes t ts us → comparison_of t ≡ Some a → grammar.comparison_operator ts a us
+    there : (ts : Tokens) (a : Comparison) (us : Tokens) (t : Token) → TakesToken t ts us → comparison_of t ≡ Some a → grammar.comparison_operator ts a us
     there ts a us (token.Sign sign.Equal) same v = inl (mark-gives sign.Equal _ a ts us same v)
     there ts a us (token.Sign sign.NotEqual) same v = inr (inl (mark-gives sign.NotEqual _ a ts us same v))
     there ts a us (token.Sign sign.Less) same v = inr (inr (inl (mark-gives sign.Less _ a ts us same v)))
@@ -191,7 +191,7 @@ stands-additive = record { shows = shows; none = none; there = λ ts a us spelt.
     none (token.Sign sign.Minus) b = cc
     none t b = refl
 
-    there : (ts : Tokens) (a : Arithmetic) (us : Tokens) (t : Token) → Takes t ts us → additive_of t ≡ Some a → grammar.additive ts a us
+    there : (ts : Tokens) (a : Arithmetic) (us : Tokens) (t : Token) → TakesToken t ts us → additive_of t ≡ Some a → grammar.additive ts a us
     there ts a us (token.Sign sign.Plus) same v = inl (mark-gives sign.Plus _ a ts us same v)
     there ts a us (token.Sign sign.Minus) same v = inr (mark-gives sign.Minus _ a ts us same v)
     there ts a us t same v = cc
@@ -219,7 +219,7 @@ stands-multiplicative = record { shows = shows; none = none; there = λ ts a us 
     none (token.Sign sign.Slash) b = cc
     none t b = refl
 
-    there : (ts : Tokens) (a : Arithmetic) (us : Tokens) (t : Token) → Takes t ts us → multiplicative_of t ≡ Some a → grammar.multiplicative ts a us
+    there : (ts : Tokens) (a : Arithmetic) (us : Tokens) (t : Token) → TakesToken t ts us → multiplicative_of t ≡ Some a → grammar.multiplicative ts a us
     there ts a us (token.Sign sign.Star) same v = inl (mark-gives sign.Star _ a ts us same v)
     there ts a us (token.Sign sign.Slash) same v = inr (mark-gives sign.Slash _ a ts us same v)
     there ts a us t same v = cc
@@ -231,7 +231,7 @@ stands-multiplicative = record { shows = shows; none = none; there = λ ts a us 
 -- ---- literals, and constants, which are literals and parameters
 
 literal-word : (ts : Tokens) (a : Literal) (us : Tokens) (w : Text) (n t f : Bool) → bytes_eq w (codes "null") ≡ n → bytes_eq w (codes "true") ≡ t → bytes_eq w (codes "false") ≡ f
-    → Takes (token.Word w) ts us → cond n (Some literal.Null) (cond t (Some (literal.Bool true)) (cond f (Some (literal.Bool false)) None)) ≡ Some a → grammar.literal ts a us
+    → TakesToken (token.Word w) ts us → cond n (Some literal.Null) (cond t (Some (literal.Bool true)) (cond f (Some (literal.Bool false)) None)) ≡ Some a → grammar.literal ts a us
 literal-word ts a us w true t f p q r same v = inr (inr (inl (word-gives w (codes "null") _ a ts us p same v)))
 literal-word ts a us w false true f p q r same v = inr (inr (inr (inl (word-gives w (codes "true") _ a ts us q same v))))
 literal-word ts a us w false false true p q r same v = inr (inr (inr (inr (word-gives w (codes "false") _ a ts us r same v))))
@@ -240,7 +240,7 @@ literal-word ts a us w false false false p q r same v = cc
 pub literal-there : (ts : Tokens) (a : Literal) (us : Tokens) → one literal_of ts a us → grammar.literal ts a us
 literal-there ts a us (t, same, v) = by t same v
   where
-    by : (t : Token) → Takes t ts us → literal_of t ≡ Some a → grammar.literal ts a us
+    by : (t : Token) → TakesToken t ts us → literal_of t ≡ Some a → grammar.literal ts a us
     by (token.Number d) same v = inl (d, us, same, (unsome _ a v, refl))
     by (token.Text x) same v = inr (inl (x, us, same, (unsome _ a v, refl)))
     by (token.Word w) same v = literal-word ts a us w (bytes_eq w (codes "null")) (bytes_eq w (codes "true")) (bytes_eq w (codes "false")) refl refl refl same v
@@ -274,7 +274,7 @@ word-none w false false false b = refl
 abbrev pub constant : Line Expr
 constant = lines.◌or◌ (lines.◌<$>◌ e.Literal grammar.literal) (lines.◌<$>◌ e.Param parameter)
 
-of-literal : (ts : Tokens) (a : Expr) (us : Tokens) (t : Token) (l : Option Literal) → literal_of t ≡ l → Takes t ts us → constant_of_literal l ≡ Some a → constant ts a us
+of-literal : (ts : Tokens) (a : Expr) (us : Tokens) (t : Token) (l : Option Literal) → literal_of t ≡ l → TakesToken t ts us → constant_of_literal l ≡ Some a → constant ts a us
 of-literal ts a us t (Some l) q same v = inl (l, us, literal-there ts l us (t, same, q), (unsome _ a v, refl))
 of-literal ts a us t None q same v = cc
 
@@ -295,7 +295,7 @@ stands-constant = record { shows = shows; none = none; there = λ ts a us spelt.
     none (token.Word w) b = word-none w (bytes_eq w (codes "null")) (bytes_eq w (codes "true")) (bytes_eq w (codes "false")) b
     none t b = refl
 
-    there : (ts : Tokens) (a : Expr) (us : Tokens) (t : Token) → Takes t ts us → constant_of t ≡ Some a → constant ts a us
+    there : (ts : Tokens) (a : Expr) (us : Tokens) (t : Token) → TakesToken t ts us → constant_of t ≡ Some a → constant ts a us
     there ts a us (token.Param d) same v = inr (d, us, same, (unsome _ a v, refl))
     there ts a us (token.Number d) same v = of-literal ts a us (token.Number d) (literal_of (token.Number d)) refl same v
     there ts a us (token.Text x) same v = of-literal ts a us (token.Text x) (literal_of (token.Text x)) refl same v

@@ -18,18 +18,18 @@ Line A = Tokens → A → Tokens → Type 0
 -- ---- one token, and what it gives
 
 -- the token comes next, and these stand behind it
-pub record Takes (t : Token) (ts us : Tokens) : Type 0 where
+pub record TakesToken (t : Token) (ts us : Tokens) : Type 0 where
   pub tokens : ts ≡ t ∷ us
 
 abbrev pub word : Text → Line (Unit {0})
-word w ts u us = Takes (token.Word w) ts us
+word w ts u us = TakesToken (token.Word w) ts us
 
 -- a keyword
 abbrev pub key : String → Line (Unit {0})
 key w = word (codes w)
 
 abbrev pub mark : Sign → Line (Unit {0})
-mark s ts u us = Takes (token.Sign s) ts us
+mark s ts u us = TakesToken (token.Sign s) ts us
 
 abbrev pub reserved_words : List Text
 reserved_words =
@@ -41,16 +41,16 @@ reserved_words =
 
 -- a word that isn't reserved, or a quoted identifier
 abbrev pub name : Line Text
-name ts n us = (Takes (token.Word n) ts us × All (λ reserved. reserved ≢ n) reserved_words) ⊎ Takes (token.Quoted n) ts us
+name ts n us = (TakesToken (token.Word n) ts us × All (λ reserved. reserved ≢ n) reserved_words) ⊎ TakesToken (token.Quoted n) ts us
 
 abbrev pub number : Line Text
-number ts digits us = Takes (token.Number digits) ts us
+number ts digits us = TakesToken (token.Number digits) ts us
 
 abbrev pub string : Line Text
-string ts text us = Takes (token.Text text) ts us
+string ts text us = TakesToken (token.Text text) ts us
 
 abbrev pub parameter : Line Text
-parameter ts digits us = Takes (token.Param digits) ts us
+parameter ts digits us = TakesToken (token.Param digits) ts us
 
 -- ---- no token
 

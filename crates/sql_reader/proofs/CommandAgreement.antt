@@ -15,7 +15,7 @@ use Rattle.sql_tokens.specs.declared.token.Token.TheVariants as token
 use Rattle.sql_tree.specs.declared.command.Command.{Command}
 use Rattle.sql_expr.specs.Load.{load_of}
 use Rattle.sql_expr.specs.Reading.{Text, Tokens, Outcome, Parser}
-use Rattle.sql_expr.specs.Lines.{Line, word as a_word, Takes}
+use Rattle.sql_expr.specs.Lines.{Line, word as a_word, TakesToken}
 use Rattle.sql_expr.specs.Lines as lines
 use Rattle.sql_reader.specs.declared.leading.Keyword.{Keyword}
 use Rattle.sql_reader.specs.Leading.{leading_words, keyword_of}
@@ -243,7 +243,7 @@ line-complete : (ts : Tokens) (c : Command) → grammar.backslash_line ts c [] �
 unfolding grammar.backslash_line spec.command
 line-complete ts c here = by here
   where
-    at : (letters : Text) (behind : Tokens) → Takes (token.Backslash letters) ts behind → spec.command ts ≡ Some (c, [])
+    at : (letters : Text) (behind : Tokens) → TakesToken (token.Backslash letters) ts behind → spec.command ts ≡ Some (c, [])
     at letters behind same = ap spec.command same.tokens ∙ (agrees-backslash_line {n = length behind} letters).complete behind c [] (omega arith) (subst (λ vs. grammar.backslash_line vs c []) same.tokens here) refl
 
     by : grammar.backslash_line ts c [] → spec.command ts ≡ Some (c, [])

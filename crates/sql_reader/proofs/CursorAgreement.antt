@@ -11,7 +11,7 @@ use Rattle.sql_tree.specs.declared.cursors.CursorOptions.{CursorOptions}
 use Rattle.sql_tree.specs.declared.select.Select.{Select}
 use Rattle.sql_tree.specs.declared.statement.Statement.TheVariants as statement
 use Rattle.sql_expr.specs.Reading.{Text, Tokens, Parser, ◌>>◌, pure, taken, goes_on, behind, expect_word, sees_word}
-use Rattle.sql_expr.specs.Lines.{Line, gives, word as a_word, many, Takes}
+use Rattle.sql_expr.specs.Lines.{Line, gives, word as a_word, many, TakesToken}
 use Rattle.sql_expr.specs.Lines as lines
 use Rattle.sql_reader_session.specs.declared.cursors.CursorOption.{CursorOption}
 use Rattle.sql_reader_session.specs.declared.cursors.CursorOption.TheVariants.{Scroll, NoScroll, Insensitive, Asensitive}
@@ -63,14 +63,14 @@ no-option (token.Backslash l) b = refl
 option-spelt : (ts : Tokens) (a : CursorOption) (us : Tokens) → one option_of ts a us → option_line ts a us
 option-spelt ts a us (t, e, v) = by t e v
   where
-    by-word : (w : Text) (b c d : Bool) → bytes_eq w (codes "scroll") ≡ b → bytes_eq w (codes "insensitive") ≡ c → bytes_eq w (codes "asensitive") ≡ d → Takes (token.Word w) ts us
+    by-word : (w : Text) (b c d : Bool) → bytes_eq w (codes "scroll") ≡ b → bytes_eq w (codes "insensitive") ≡ c → bytes_eq w (codes "asensitive") ≡ d → TakesToken (token.Word w) ts us
         → cond b (Some Scroll) (cond c (Some Insensitive) (cond d (Some Asensitive) None)) ≡ Some a → option_line ts a us
     by-word w true c d p q r e v = let same : a ≡ Scroll = cc in inl (tt, us, taking e (ap token.Word ((bytes_eq-Decides w (codes "scroll")).0 p)), (same, refl))
     by-word w false true d p q r e v = let same : a ≡ Insensitive = cc in inr (inr (inl (tt, us, taking e (ap token.Word ((bytes_eq-Decides w (codes "insensitive")).0 q)), (same, refl))))
     by-word w false false true p q r e v = let same : a ≡ Asensitive = cc in inr (inr (inr (tt, us, taking e (ap token.Word ((bytes_eq-Decides w (codes "asensitive")).0 r)), (same, refl))))
     by-word w false false false p q r e v = cc
 
-    by : (t : Token) → Takes t ts us → option_of t ≡ Some a → option_line ts a us
+    by : (t : Token) → TakesToken t ts us → option_of t ≡ Some a → option_line ts a us
     by (token.Word w) e v = by-word w (bytes_eq w (codes "scroll")) (bytes_eq w (codes "insensitive")) (bytes_eq w (codes "asensitive")) refl refl refl e v
     by (token.Quoted q) e v = cc
     by (token.Sign s) e v = cc

@@ -6,7 +6,7 @@ use Rattle.std.proofs.lemmas.Grind.{common_steps}
 use Rattle.sql_tokens.specs.declared.token.Token.TheVariants as token
 use Rattle.sql_expr.specs.Reading.{Text, Tokens, Parser, ◌>>=◌, ◌>>◌, ◌<$>◌, pure, required, behind, eat_word, sees_word}
 use Rattle.sql_expr.specs.Names.{name_of, sees_name}
-use Rattle.sql_expr.specs.Lines.{Line, gives, ahead, unless, word as a_word, name, maybe, Takes}
+use Rattle.sql_expr.specs.Lines.{Line, gives, ahead, unless, word as a_word, name, maybe, TakesToken}
 use Rattle.sql_expr.specs.Lines as lines
 use Rattle.sql_reader_session.specs.Keywords.{eat_either}
 use Rattle.sql_expr.proofs.Heads.{Barred, Head, clear, begins, all_avoid, clear-begins, begins-left, begins-right, and-left, and-right}
@@ -131,7 +131,7 @@ both-true false b e k = cc
 
 -- A test of the next tokens, which says whether the word stands before the line.
 pub record Looks {A : Type 0} (test : Tokens → Bool) (w : Text) (F : Line A) : Type 0 where
-  pub yes : (ts : Tokens) → test ts ≡ true → Takes (token.Word w) ts (drop 1 ts) × ((a : A) × (vs : Tokens) × F (drop 1 ts) a vs)
+  pub yes : (ts : Tokens) → test ts ≡ true → TakesToken (token.Word w) ts (drop 1 ts) × ((a : A) × (vs : Tokens) × F (drop 1 ts) a vs)
   pub sure : (us : Tokens) (a : A) (vs : Tokens) → F us a vs → test (token.Word w ∷ us) ≡ true
 
 pub agrees-keyword : {S : Type 0} {n : ℕ} {A B : Type 0} {test : Tokens → Bool} {F : Line A} {P Q : Line B} {k m : ℕ} {inner heads : List Head} {tail : Barred} (w : Text) (f : Bool → Parser B)

@@ -11,7 +11,7 @@ use Rattle.sql_tree.specs.declared.select.RowCount.TheVariants.{Number, Param, N
 use Rattle.sql_expr.specs.Reading.{Text, Tokens, Parser, ◌>>=◌, ◌<$>◌, pure, taken, required, behind, eat_word, sees_word}
 use Rattle.sql_expr.specs.Literals as spec_literals
 use Rattle.sql_expr.specs.Literals.{digits_of, param_of}
-use Rattle.sql_expr.specs.Lines.{Line, gives, word as a_word, mark, number, parameter, maybe, Takes}
+use Rattle.sql_expr.specs.Lines.{Line, gives, word as a_word, mark, number, parameter, maybe, TakesToken}
 use Rattle.sql_expr.specs.Lines as lines
 use Rattle.sql_reader_query.specs.Limits as spec
 use Rattle.sql_reader.specs.QueryGrammar as grammar
@@ -36,7 +36,7 @@ stands-param = record { shows = shows; none = none; there = λ ts a us spelt. th
     none (token.Param d) b = cc
     none t b = refl
 
-    there : (ts : Tokens) (a : Text) (us : Tokens) (t : Token) → Takes t ts us → param_of t ≡ Some a → parameter ts a us
+    there : (ts : Tokens) (a : Text) (us : Tokens) (t : Token) → TakesToken t ts us → param_of t ≡ Some a → parameter ts a us
     there ts a us (token.Param d) here v = let is : d ≡ a = cc in taking here (ap token.Param is)
     there ts a us t here v = cc
 

@@ -6,7 +6,7 @@ use Rattle.sql_tokens.specs.declared.token.Token.TheVariants as token
 use Rattle.sql_tree.specs.declared.command.Command.{Command}
 use Rattle.sql_tree.specs.declared.command.Command.TheVariants as command
 use Rattle.sql_expr.specs.Reading.{Text, Tokens, Parser, ◌<$>◌, pure}
-use Rattle.sql_expr.specs.Lines.{Line, gives, Takes}
+use Rattle.sql_expr.specs.Lines.{Line, gives, TakesToken}
 use Rattle.sql_expr.specs.Lines as lines
 use Rattle.sql_expr.specs.Names as names
 use Rattle.sql_reader_session.specs.Prepared as prepared
@@ -22,7 +22,7 @@ use Rattle.sql_reader.proofs.StatementAgreement.{statement_tail}
 use Rattle.sql_reader.proofs.PreparedAgreement.{agrees-execute_tree, agrees-prepare_tree}
 
 abbrev backslash_of : Text → Line (Unit {0})
-backslash_of letters ts u us = Takes (token.Backslash letters) ts us
+backslash_of letters ts u us = TakesToken (token.Backslash letters) ts us
 
 -- the line behind the backslash and its letters
 abbrev pub behind_letters : Text → Line Command

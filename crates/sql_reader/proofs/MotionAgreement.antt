@@ -13,7 +13,7 @@ use Rattle.sql_tree.specs.declared.command.Command.TheVariants as command
 use Rattle.sql_tree.specs.declared.cursors.Motion.{Motion}
 use Rattle.sql_tree.specs.declared.cursors.Motion.TheVariants as moves
 use Rattle.sql_expr.specs.Reading.{Text, Tokens, Outcome, Parser, and_then, ◌>>=◌, ◌<$>◌, pure, taken}
-use Rattle.sql_expr.specs.Lines.{Line, gives, unless, number, word as a_word, mark, maybe, Takes}
+use Rattle.sql_expr.specs.Lines.{Line, gives, unless, number, word as a_word, mark, maybe, TakesToken}
 use Rattle.sql_expr.specs.Lines as lines
 use Rattle.sql_expr.specs.Names.{is_reserved}
 use Rattle.sql_reader_session.specs.declared.motions.Direction.{Direction}
@@ -240,10 +240,10 @@ seen-direction ts us (inr (inr (inr (inr (inr (inr (inr (inr e)))))))) = (direct
 spelt-direction : (ts : Tokens) (d : Direction) (us : Tokens) → one direction_of ts d us → grammar.direction ts tt us
 spelt-direction ts d us (t, e, v) = by t e v
   where
-    is : (w v : Text) (found : Direction) → Takes (token.Word w) ts us → (w ≡ v) × (d ≡ found) → Takes (token.Word v) ts us
+    is : (w v : Text) (found : Direction) → TakesToken (token.Word w) ts us → (w ≡ v) × (d ≡ found) → TakesToken (token.Word v) ts us
     is w v found e same = taking e (ap token.Word same.0)
 
-    by : (t : Token) → Takes t ts us → direction_of t ≡ Some d → grammar.direction ts tt us
+    by : (t : Token) → TakesToken t ts us → direction_of t ≡ Some d → grammar.direction ts tt us
     by (token.Word w) e v = ⊎_elim (λ x. inl (is w (codes "next") direction.Next e x)) (λ v.
         ⊎_elim (λ x. inr (inl (is w (codes "prior") direction.Prior e x))) (λ v.
         ⊎_elim (λ x. inr (inr (inl (is w (codes "first") direction.First e x)))) (λ v.
@@ -268,10 +268,10 @@ there ts a us (inl count) = inl (inr (inr (inr (inr (inr (inr (inl count)))))))
 there ts a us (inr (inr (x, middle, none, given))) = inr (tt, middle, (none.0, λ u vs spelt. let found = seen-direction ts vs spelt in none.1 found.0 vs found.1), given)
 there ts a us (inr (inl (d, middle, (t, e, v), rest))) = by t e v
   where
-    at : (w v : Text) (found : Direction) → Takes (token.Word w) ts middle → (w ≡ v) × (d ≡ found) → (lines.◌>>◌ (a_word v) (directed found)) ts a us
+    at : (w v : Text) (found : Direction) → TakesToken (token.Word w) ts middle → (w ≡ v) × (d ≡ found) → (lines.◌>>◌ (a_word v) (directed found)) ts a us
     at w v found e same = (tt, middle, taking e (ap token.Word same.0), subst (λ x. directed x middle a us) same.1 rest)
 
-    by : (t : Token) → Takes t ts middle → direction_of t ≡ Some d → grammar.optional_motion ts a us
+    by : (t : Token) → TakesToken t ts middle → direction_of t ≡ Some d → grammar.optional_motion ts a us
     by (token.Word w) e v = inl (⊎_elim (λ x. inl (at w (codes "next") direction.Next e x)) (λ v.
         ⊎_elim (λ x. inr (inl (at w (codes "prior") direction.Prior e x))) (λ v.
         ⊎_elim (λ x. inr (inr (inl (at w (codes "first") direction.First e x)))) (λ v.

@@ -11,7 +11,7 @@ use Rattle.sql_tokens.specs.declared.token.Sign.TheVariants as sign
 use Rattle.sql_tree.specs.declared.command.Command.{Command}
 use Rattle.sql_tree.specs.declared.command.Command.TheVariants as command
 use Rattle.sql_expr.specs.Reading.{Text, Tokens, Parser, ◌>>=◌, pure, sees_word}
-use Rattle.sql_expr.specs.Lines.{Line, gives, ahead, unless, name, word as a_word, mark, Takes}
+use Rattle.sql_expr.specs.Lines.{Line, gives, ahead, unless, name, word as a_word, mark, TakesToken}
 use Rattle.sql_expr.specs.Lines as lines
 use Rattle.sql_expr.specs.Names.{is_reserved}
 use Rattle.sql_expr.specs.Names as names
@@ -42,14 +42,14 @@ text-there : (ts : Tokens) (a : Text) (us : Tokens) → one text_of ts a us → 
 text-there ts a us (t, e, v) = by t e v
   where
     by-word : (w : Text) (on truth falsity reserved : Bool) → bytes_eq w (codes "on") ≡ on → bytes_eq w (codes "true") ≡ truth → bytes_eq w (codes "false") ≡ falsity → is_reserved w ≡ reserved
-        → Takes (token.Word w) ts us → cond (on || truth || falsity || not reserved) (Some w) None ≡ Some a → grammar.setting_text ts a us
+        → TakesToken (token.Word w) ts us → cond (on || truth || falsity || not reserved) (Some w) None ≡ Some a → grammar.setting_text ts a us
     by-word w true truth falsity reserved o t f r e v = let same = (bytes_eq-Decides w (codes "on")).0 o in let value : a ≡ w = cc in inr (inr (inl (tt, us, taking e (ap token.Word same), (value ∙ same, refl))))
     by-word w false true falsity reserved o t f r e v = let same = (bytes_eq-Decides w (codes "true")).0 t in let value : a ≡ w = cc in inr (inr (inr (inl (tt, us, taking e (ap token.Word same), (value ∙ same, refl)))))
     by-word w false false true reserved o t f r e v = let same = (bytes_eq-Decides w (codes "false")).0 f in let value : a ≡ w = cc in inr (inr (inr (inr (tt, us, taking e (ap token.Word same), (value ∙ same, refl)))))
     by-word w false false false true o t f r e v = cc
     by-word w false false false false o t f r e v = let is : w ≡ a = cc in inl (inl (taking e (ap token.Word is), free-word a (subst (λ x. is_reserved x ≡ false) is r)))
 
-    by : (t : Token) → Takes t ts us → text_of t ≡ Some a → grammar.setting_text ts a us
+    by : (t : Token) → TakesToken t ts us → text_of t ≡ Some a → grammar.setting_text ts a us
     by (token.Word w) e v = by-word w (bytes_eq w (codes "on")) (bytes_eq w (codes "true")) (bytes_eq w (codes "false")) (is_reserved w) refl refl refl refl e v
     by (token.Quoted q) e v = let is : q ≡ a = cc in inl (inr (taking e (ap token.Quoted is)))
     by (token.Text x) e v = let is : x ≡ a = cc in inr (inl (taking e (ap token.Text is)))
@@ -172,7 +172,7 @@ moved : (local wanted : Bool) (middle start : Tokens) (c : Command) (us : Tokens
 moved local wanted middle start c us same rest = subst (λ l. scoped l start c us) same.0 (subst (λ vs. scoped local vs c us) same.1 rest)
 
 -- SESSION is not LOCAL
-not-local : (ts middle : Tokens) → Takes (token.Word (codes "session")) ts middle → (a : Text) (vs : Tokens) → ¬ (lines.◌>>◌ (a_word (codes "local")) name) ts a vs
+not-local : (ts middle : Tokens) → TakesToken (token.Word (codes "session")) ts middle → (a : Text) (vs : Tokens) → ¬ (lines.◌>>◌ (a_word (codes "local")) name) ts a vs
 unfolding sees_word
 not-local ts middle here a vs (u, last, local, named) = let clash : true ≡ false = ap (sees_word (codes "local")) (sym local.tokens ∙ here.tokens) in cc
 

@@ -7,7 +7,7 @@ use Rattle.sql_tokens.specs.declared.token.Token.{Token}
 use Rattle.sql_tokens.specs.declared.token.Token.TheVariants as token
 use Rattle.sql_tree.specs.declared.{command.Command.Command, prepared.BindTree.BindTree, prepared.RunTree.RunTree}
 use Rattle.sql_tree.specs.declared.command.Command.TheVariants as command_of
-use Rattle.sql_expr.specs.Lines.{Takes, Line, ◌>>=◌, ◌>>◌, ◌<$>◌, ◌or◌, gives, name, key}
+use Rattle.sql_expr.specs.Lines.{TakesToken, Line, ◌>>=◌, ◌>>◌, ◌<$>◌, ◌or◌, gives, name, key}
 use Rattle.sql_expr.specs.Load.{load_of}
 use Rattle.sql_reader.specs.BlockGrammar.{savepoint_name, begin, start, commit, rollback, abort, set}
 use Rattle.sql_reader.specs.CatalogGrammar.{create, drop_object, truncate, analyze, alter}
@@ -37,7 +37,7 @@ catalog_command = key "create" >> create or key "drop" >> drop_object or key "tr
 
 -- the backslash with the letters, as they are written
 abbrev pub backslash : String → Line (Unit {0})
-backslash letters ts u us = Takes (token.Backslash (codes letters)) ts us
+backslash letters ts u us = TakesToken (token.Backslash (codes letters)) ts us
 
 -- the name is that of a portal, here and below
 unfoldable pub bind_tree : Line BindTree
