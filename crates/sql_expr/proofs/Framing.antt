@@ -18,6 +18,9 @@ use Rattle.sql_expr.specs.Lines.{Line, nowhere, gives, unless, word as a_word, m
 use Rattle.sql_expr.specs.Lines as lines
 use Rattle.sql_expr.specs.Literals.{negative_number}
 use Rattle.sql_expr.specs.Grammar as grammar
+use Rattle.sql_expr.proofs.TokenKinds.{constant}
+use Rattle.sql_expr.proofs.ExpressionLines as expr
+use Rattle.sql_expr.proofs.ExpressionCases.{spelt-by-line, line-spelt}
 use Rattle.sql_expr.proofs.ExpressionAgreement.{within-takes}
 
 pub record Framed {A : Type 0} (P : Line A) (ts : Tokens) (a : A) (us : Tokens) : Type 0 where
@@ -110,8 +113,8 @@ frames-separated separator each = frames-bind each (λ first. frames-bind (frame
 frames-said : (keyword : String) → Frames (lines.said keyword)
 frames-said keyword = frames-or (frames-bind (frames-key (codes keyword)) (λ u. frames-gives true)) (frames-gives false)
 
-frames-chain : {operator : Line Arithmetic} {operand : Line Expr} → Frames operator → Frames operand → Frames (grammar.chain operator operand)
-frames-chain o each = frames-bind each (λ first. frames-bind (frames-many (frames-bind o (λ op. frames-bind each (λ right. frames-gives (op, right))))) (λ others. frames-gives (grammar.grouped first others)))
+frames-chain : {operator : Line Arithmetic} {operand : Line Expr} → Frames operator → Frames operand → Frames (expr.chain operator operand)
+frames-chain o each = frames-bind each (λ first. frames-bind (frames-many (frames-bind o (λ op. frames-bind each (λ right. frames-gives (op, right))))) (λ others. frames-gives (expr.grouped first others)))
 
 -- ---- a look at the next token, which is the first of what comes behind
 
@@ -144,108 +147,102 @@ frames-literal = frames-or (frames-mapped (λ digits. literal.Number (record { n
 frames-operator : {A : Type 0} (s : Sign) (value : A) → Frames (lines.◌>>◌ (mark s) (gives value))
 frames-operator s value = frames-bind (frames-mark s) (λ u. frames-gives value)
 
-frames-column : Frames grammar.column
-unfolding grammar.column
-frames-column = frames-or
-    (frames-bind frames-name (λ item. frames-bind (frames-mark sign.Dot) (λ u. frames-bind frames-name (λ second. frames-gives (record { item = Some item; name = second })))))
-    (frames-mapped (λ only. record { item = None; name = only }) frames-name)
+frames-constant : Frames constant
+frames-constant = frames-or (frames-mapped e.Literal frames-literal) (frames-mapped e.Param frames-parameter)
 
 frames-comparison_operator : Frames grammar.comparison_operator
 frames-comparison_operator = frames-or (frames-operator sign.Equal Equal) (frames-or (frames-operator sign.NotEqual NotEqual) (frames-or (frames-operator sign.Less Less)
     (frames-or (frames-operator sign.LessEqual LessEqual) (frames-or (frames-operator sign.Greater Greater) (frames-operator sign.GreaterEqual GreaterEqual)))))
 
 module _ (nested : Level → Line Expr) (below : (level : Level) → Frames (nested level)) (some : (ts : Tokens) (x : Expr) (us : Tokens) → nested Signed ts x us → 1 + length us ≤ length ts) where
-  frames-parenthesized : Frames (lines.parenthesized (nested Whole))
-  frames-parenthesized = frames-bind (frames-mark sign.LeftParen) (λ u. frames-bind (below Whole) (λ inner. frames-bind (frames-mark sign.RightParen) (λ v. frames-gives inner)))
+  frames-parenthesized : Frames (expr.parenthesized nested)
+  frames-parenthesized = frames-bind (below Whole) (λ inner. frames-bind (frames-mark sign.RightParen) (λ v. frames-gives inner))
 
-  frames-call : Frames (grammar.call nested)
-  frames-call = frames-bind frames-name (λ function. frames-bind (frames-mark sign.LeftParen) (λ u.
-      frames-bind (frames-or (frames-bind (frames-mark sign.Star) (λ v. frames-gives (e.CallStar function))) (frames-mapped (e.Call function) (below Whole))) (λ called.
-      frames-bind (frames-mark sign.RightParen) (λ w. frames-gives called))))
+  frames-called : (function : Text) → Frames (expr.called nested function)
+  frames-called function = frames-or (frames-bind (frames-mark sign.Star) (λ u. frames-bind (frames-mark sign.RightParen) (λ v. frames-gives (e.CallStar function))))
+      (frames-bind (below Whole) (λ argument. frames-bind (frames-mark sign.RightParen) (λ v. frames-gives (e.Call function argument))))
 
-  frames-primary : Frames (grammar.primary nested)
-  unfolding grammar.primary
-  frames-primary = frames-or (frames-mapped e.Literal frames-literal) (frames-or (frames-mapped e.Param frames-parameter) (frames-or (frames-mapped e.Column frames-column) (frames-or frames-call frames-parenthesized)))
+  frames-columned : (first : Text) → Frames (expr.columned nested first)
+  frames-columned first = frames-or (frames-bind (frames-mark sign.Dot) (λ u. frames-bind frames-name (λ second. frames-gives (e.Column (record { item = Some first; name = second })))))
+      (frames-gives (e.Column (record { item = None; name = first })))
 
-  abbrev minus_of_none : Line Expr
-  minus_of_none = lines.◌>>◌ (mark sign.Minus) (lines.◌>>◌ (unless number) (lines.◌<$>◌ e.Minus (nested Signed)))
+  frames-named : Frames (expr.named nested)
+  frames-named = frames-bind frames-name (λ first. frames-or (frames-bind (frames-mark sign.LeftParen) (λ u. frames-called first)) (frames-columned first))
 
-  abbrev minus_line : Line Expr
-  minus_line = lines.◌>>◌ (lines.◌>>◌ (mark sign.Minus) (unless number)) (lines.◌<$>◌ e.Minus (nested Signed))
-
-  minus-there : (ts : Tokens) (x : Expr) (us : Tokens) → minus_of_none ts x us → minus_line ts x us
-  minus-there ts x us (u, middle, minus, (v, after, none, inner)) = (v, after, (u, middle, minus, none), inner)
-
-  minus-back : (ts : Tokens) (x : Expr) (us : Tokens) → minus_line ts x us → minus_of_none ts x us
-  minus-back ts x us (v, after, (u, middle, minus, none), inner) = (u, middle, minus, (v, after, none, inner))
+  frames-primary : Frames (expr.primary nested)
+  unfolding expr.primary
+  frames-primary = frames-or (frames-bind (frames-mark sign.LeftParen) (λ u. frames-parenthesized)) (frames-or (frames-bind frames-constant (λ x. frames-gives x)) frames-named)
 
   minus-some : (ts : Tokens) (x : Expr) (us : Tokens) → (lines.◌<$>◌ e.Minus (nested Signed)) ts x us → 1 + length us ≤ length ts
   minus-some ts x us (operand, middle, inner, (same, end)) = subst (λ vs. 1 + length vs ≤ length ts) (sym end) (some ts operand middle inner)
 
-  frames-signed : Frames (grammar.signed nested)
-  unfolding grammar.signed
-  frames-signed = frames-or (frames-bind (frames-mark sign.Minus) (λ u. frames-mapped negative_number frames-number))
-      (frames-or (frames-same minus-there minus-back (frames-bind (frames-mark sign.Minus) (λ u. frames-no_number (frames-mapped e.Minus (below Signed)) minus-some))) frames-primary)
+  frames-signed : Frames (expr.signed nested)
+  unfolding expr.signed
+  frames-signed = frames-or (frames-bind (frames-mark sign.Minus) (λ u. frames-or (frames-mapped negative_number frames-number)
+      (frames-no_number (frames-mapped e.Minus (below Signed)) minus-some))) frames-primary
 
-  frames-product : Frames (grammar.product nested)
-  unfolding grammar.product
+  frames-product : Frames (expr.product nested)
+  unfolding expr.product
   frames-product = frames-chain (frames-or (frames-operator sign.Star Multiply) (frames-operator sign.Slash Divide)) frames-signed
 
-  frames-sum : Frames (grammar.sum nested)
-  unfolding grammar.sum
+  frames-sum : Frames (expr.sum nested)
+  unfolding expr.sum
   frames-sum = frames-chain (frames-or (frames-operator sign.Plus Add) (frames-operator sign.Minus Subtract)) frames-product
 
-  frames-in_list : (operand : Expr) (negated : Bool) → Frames (grammar.in_list nested operand negated)
-  unfolding grammar.in_list
+  frames-in_list : (operand : Expr) (negated : Bool) → Frames (expr.in_list nested operand negated)
+  unfolding expr.in_list
   frames-in_list operand negated = frames-bind (frames-mark sign.LeftParen) (λ u. frames-bind (frames-separated (frames-mark sign.Comma) (below Whole)) (λ values.
       frames-bind (frames-mark sign.RightParen) (λ v. frames-gives (e.InList operand values negated))))
 
-  frames-between : (operand : Expr) (negated : Bool) → Frames (grammar.between nested operand negated)
-  unfolding grammar.between
+  frames-between : (operand : Expr) (negated : Bool) → Frames (expr.between nested operand negated)
+  unfolding expr.between
   frames-between operand negated = frames-bind frames-sum (λ low. frames-bind (frames-key (codes "and")) (λ u. frames-bind frames-sum (λ high. frames-gives (e.Between operand low high negated))))
 
-  frames-membership : Frames (grammar.membership nested)
-  unfolding grammar.membership
-  frames-membership = frames-bind frames-sum (λ operand. frames-or
-      (frames-bind (frames-said "not") (λ negated. frames-bind (frames-key (codes "in")) (λ u. frames-in_list operand negated)))
-      (frames-or (frames-bind (frames-said "not") (λ negated. frames-bind (frames-key (codes "between")) (λ u. frames-between operand negated)))
-      (frames-gives operand)))
+  frames-tested : (operand : Expr) (negated : Bool) {other : Line Expr} → Frames other → Frames (expr.tested nested operand negated other)
+  frames-tested operand negated rest = frames-or (frames-bind (frames-key (codes "in")) (λ u. frames-in_list operand negated))
+      (frames-or (frames-bind (frames-key (codes "between")) (λ u. frames-between operand negated)) rest)
 
-  frames-comparison : Frames (grammar.comparison nested)
-  unfolding grammar.comparison
+  frames-membership : Frames (expr.membership nested)
+  unfolding expr.membership
+  frames-membership = frames-bind frames-sum (λ operand. frames-or
+      (frames-bind (frames-key (codes "not")) (λ u. frames-tested operand true frames-nowhere))
+      (frames-tested operand false (frames-gives operand)))
+
+  frames-comparison : Frames (expr.comparison nested)
+  unfolding expr.comparison
   frames-comparison = frames-bind frames-membership (λ left. frames-or
       (frames-bind frames-comparison_operator (λ op. frames-bind frames-membership (λ right. frames-gives (e.Comparison op left right))))
       (frames-gives left))
 
-  frames-null_test : Frames (grammar.null_test nested)
-  unfolding grammar.null_test
+  frames-null_test : Frames (expr.null_test nested)
+  unfolding expr.null_test
   frames-null_test = frames-bind frames-comparison (λ operand. frames-or
       (frames-bind (frames-key (codes "is")) (λ u. frames-bind (frames-said "not") (λ negated. frames-bind (frames-key (codes "null")) (λ v. frames-gives (e.IsNull operand negated)))))
       (frames-gives operand))
 
-  pub frames-negation : Frames (grammar.negation nested)
-  unfolding grammar.negation
+  pub frames-negation : Frames (expr.negation nested)
+  unfolding expr.negation
   frames-negation = frames-or (frames-bind (frames-key (codes "not")) (λ u. frames-mapped e.Not (below Negated))) frames-null_test
 
-  frames-conjunction : Frames (grammar.conjunction nested)
-  unfolding grammar.conjunction
+  frames-conjunction : Frames (expr.conjunction nested)
+  unfolding expr.conjunction
   frames-conjunction = frames-mapped (grammar.operation e.And) (frames-separated (frames-key (codes "and")) frames-negation)
 
-  pub frames-disjunction : Frames (grammar.disjunction nested)
-  unfolding grammar.disjunction
+  pub frames-disjunction : Frames (expr.disjunction nested)
+  unfolding expr.disjunction
   frames-disjunction = frames-mapped (grammar.operation e.Or) (frames-separated (frames-key (codes "or")) frames-conjunction)
 
-frames-within : (depth : ℕ) (level : Level) → Frames (grammar.within depth level)
-unfolding grammar.within
+frames-within : (depth : ℕ) (level : Level) → Frames (expr.within depth level)
+unfolding expr.within
 frames-within zero level = frames-nowhere
-frames-within (suc depth) Whole = frames-disjunction (grammar.within depth) (frames-within depth) (within-takes depth Signed)
-frames-within (suc depth) Negated = frames-negation (grammar.within depth) (frames-within depth) (within-takes depth Signed)
-frames-within (suc depth) Signed = frames-signed (grammar.within depth) (frames-within depth) (within-takes depth Signed)
+frames-within (suc depth) Whole = frames-disjunction (expr.within depth) (frames-within depth) (within-takes depth Signed)
+frames-within (suc depth) Negated = frames-negation (expr.within depth) (frames-within depth) (within-takes depth Signed)
+frames-within (suc depth) Signed = frames-signed (expr.within depth) (frames-within depth) (within-takes depth Signed)
 
 pub frames-expression : Frames grammar.expression
-unfolding grammar.expression
 frames-expression = record {
   at = λ ts x us spelt.
-      let f = (frames-disjunction (grammar.within spelt.0) (frames-within spelt.0) (within-takes spelt.0 Signed)).at ts x us spelt.1 in
-      record { front = f.front; joined = f.joined; anywhere = λ vs. (spelt.0, f.anywhere vs) };
+      let n = length ts in
+      let f = (frames-disjunction (expr.within n) (frames-within n) (within-takes n Signed)).at ts x us (line-spelt ts x us spelt n (omega arith)) in
+      record { front = f.front; joined = f.joined; anywhere = λ vs. spelt-by-line n (f.front ++ vs) x vs (f.anywhere vs) };
 }

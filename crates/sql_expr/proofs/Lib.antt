@@ -1,5 +1,7 @@
 pub mod Agreement
 pub mod ExpressionAgreement
+pub mod ExpressionCases
+pub mod ExpressionLines
 pub mod Framing
 pub mod Heads
 pub mod LevelLemmas

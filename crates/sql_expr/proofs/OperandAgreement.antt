@@ -8,7 +8,8 @@ use Rattle.sql_expr.specs.Reading.{Text, Tokens, Parser, ◌>>=◌, pure, taken,
 use Rattle.sql_expr.specs.Expressions.{grouped_from}
 use Rattle.sql_expr.specs.Lines.{Line, gives, many, word as a_word}
 use Rattle.sql_expr.specs.Lines as lines
-use Rattle.sql_expr.specs.Grammar.{operation, grouped, chain}
+use Rattle.sql_expr.specs.Grammar.{operation}
+use Rattle.sql_expr.proofs.ExpressionLines.{grouped, chain}
 use Rattle.sql_expr.proofs.Heads.{Barred, Head, clear, begins, all_avoid, begins-clear, clear-begins, begins-left, begins-right}
 use Rattle.sql_expr.proofs.Agreement.{Agrees, Stands, tests-word, bar_word, bind_some, same_value, same_rest, same_read, read_then, taken-cases, taken-some, taken-nothing, none-barred, agrees-pure, agrees-bind, agrees-word, agrees-same, agrees-fewer}
 use Rattle.sql_expr.proofs.ListAgreement.{agrees-separated_from}

@@ -1,5 +1,5 @@
--- The grammar of expressions: which tokens spell one, line by line.
-use Rattle.std.specs.Prelude.{◌≡◌, ◌⊎◌, ◌<◌, ℕ, zero, suc, Bool, true, false, List, [], ◌∷◌, length, Some, None}
+-- The grammar of expressions: which tokens spell one. Each case is an alternative of a line.
+use Rattle.std.specs.Prelude.{◌≡◌, ◌⊎◌, ◌<◌, Bool, true, false, List, [], ◌∷◌, length, Option, Some, None}
 use Rattle.sql_tokens.specs.declared.token.Sign.TheVariants as sign
 use Rattle.sql_tree.specs.declared.names.ColumnRef.{ColumnRef}
 use Rattle.sql_tree.specs.declared.expr.{Arithmetic.Arithmetic, Comparison.Comparison, Expr.Expr, Literal.Literal}
@@ -7,16 +7,18 @@ use Rattle.sql_tree.specs.declared.expr.Arithmetic.TheVariants.{Add, Subtract, M
 use Rattle.sql_tree.specs.declared.expr.Comparison.TheVariants.{Equal, NotEqual, Less, LessEqual, Greater, GreaterEqual}
 use Rattle.sql_tree.specs.declared.expr.Expr.TheVariants as e
 use Rattle.sql_tree.specs.declared.expr.Literal.TheVariants as literal_of
-use Rattle.sql_expr.specs.declared.grammar.Level.{Level, TheVariants.Whole, TheVariants.Negated, TheVariants.Signed}
-use Rattle.sql_expr.specs.Lines.{Tokens, Line, ◌>>=◌, ◌>>◌, ◌<$>◌, ◌or◌, key, mark, name, number, string, parameter, nowhere, gives, unless, said, many, separated, list, parenthesized}
+use Rattle.sql_expr.specs.Lines.{Text, Tokens, Line, ◌>>=◌, ◌>>◌, ◌<$>◌, ◌or◌, key, mark, name, number, string, parameter, gives, unless, said}
 
 abbrev pub literal : Line Literal
 literal = (λ digits. literal_of.Number (record { negative = false; digits = digits })) <$> number or literal_of.Text <$> string
     or key "null" >> gives literal_of.Null or key "true" >> gives (literal_of.Bool true) or key "false" >> gives (literal_of.Bool false)
 
+-- a name, with the name that it belongs to where one is written
+unfoldable pub qualified : Line (Option Text × Text)
+qualified = (do first ← name; mark sign.Dot; second ← name; gives (Some first, second)) or (λ only. (None, only)) <$> name
+
 unfoldable pub column : Line ColumnRef
-column = (do item ← name; mark sign.Dot; second ← name; gives (record { item = Some item; name = second }))
-    or (λ only. record { item = None; name = only }) <$> name
+column = (λ q. record { item = q.0; name = q.1 }) <$> qualified
 
 -- ---- operators
 
@@ -37,82 +39,64 @@ operation f [] = f []
 operation f (x ∷ []) = x
 operation f (x ∷ y ∷ more) = f (x ∷ y ∷ more)
 
--- an operand, and operators with their right operands, grouped to the left
-abbrev pub grouped : Expr → List (Arithmetic × Expr) → Expr
-grouped left [] = left
-grouped left (next ∷ more) = grouped (e.Arithmetic next.0 left next.1) more
+-- ---- the lines, those of one expression and those of lists
 
-abbrev pub chain : Line Arithmetic → Line Expr → Line Expr
-chain operator operand = do
-  first ← operand
-  others ← many (do op ← operator; right ← operand; gives (op, right))
-  gives (grouped first others)
+pub data Rule : Type 0 where
+  primary : Rule
+  signed : Rule
+  product : Rule
+  sum : Rule
+  membership : Rule
+  comparison : Rule
+  null_test : Rule
+  negation : Rule
+  conjunction : Rule
+  disjunction : Rule
+  negations : Rule
+  conjunctions : Rule
+  expressions : Rule
 
--- ---- the lines over the expressions that are nested in them: whole ones, those behind NOT, and those behind a minus
-module _ (nested : Level → Line Expr) where
-  abbrev pub call : Line Expr
-  call = do
-    function ← name
-    parenthesized (mark sign.Star >> gives (e.CallStar function) or e.Call function <$> nested Whole)
+abbrev pub Meaning : Rule → Type 0
+Meaning Rule.negations = List Expr
+Meaning Rule.conjunctions = List Expr
+Meaning Rule.expressions = List Expr
+Meaning _ = Expr
 
-  unfoldable pub primary : Line Expr
-  primary = e.Literal <$> literal or e.Param <$> parameter or e.Column <$> column or call or parenthesized (nested Whole)
+pub data Spells : (rule : Rule) → Tokens → Meaning rule → Tokens → Type 0 where
+  constant : {ts us : Tokens} {value : Literal} {x : Expr} → literal ts value us → x ≡ e.Literal value → Spells Rule.primary ts x us
+  param : {ts us : Tokens} {digits : Text} {x : Expr} → parameter ts digits us → x ≡ e.Param digits → Spells Rule.primary ts x us
+  column_reference : {ts us : Tokens} {c : ColumnRef} {x : Expr} → column ts c us → x ≡ e.Column c → Spells Rule.primary ts x us
+  call_star : {ts a b c us : Tokens} {function : Text} {x : Expr} → name ts function a → mark sign.LeftParen a tt b → mark sign.Star b tt c → mark sign.RightParen c tt us → x ≡ e.CallStar function → Spells Rule.primary ts x us
+  call : {ts a b c us : Tokens} {function : Text} {x y : Expr} → name ts function a → mark sign.LeftParen a tt b → Spells Rule.disjunction b x c → mark sign.RightParen c tt us → y ≡ e.Call function x → Spells Rule.primary ts y us
+  parenthesized : {ts a b us : Tokens} {x y : Expr} → mark sign.LeftParen ts tt a → Spells Rule.disjunction a x b → mark sign.RightParen b tt us → y ≡ x → Spells Rule.primary ts y us
+  negative_literal : {ts a us : Tokens} {digits : Text} {x : Expr} → mark sign.Minus ts tt a → number a digits us → x ≡ e.Literal (literal_of.Number (record { negative = true; digits = digits })) → Spells Rule.signed ts x us
+  minus : {ts a b us : Tokens} {x y : Expr} → mark sign.Minus ts tt a → unless number a tt b → Spells Rule.signed b x us → y ≡ e.Minus x → Spells Rule.signed ts y us
+  only_primary : {ts us : Tokens} {x : Expr} → Spells Rule.primary ts x us → Spells Rule.signed ts x us
+  only_signed : {ts us : Tokens} {x : Expr} → Spells Rule.signed ts x us → Spells Rule.product ts x us
+  multiplied : {ts a b us : Tokens} {x y z : Expr} {op : Arithmetic} → Spells Rule.product ts x a → multiplicative a op b → Spells Rule.signed b y us → z ≡ e.Arithmetic op x y → Spells Rule.product ts z us
+  only_product : {ts us : Tokens} {x : Expr} → Spells Rule.product ts x us → Spells Rule.sum ts x us
+  added : {ts a b us : Tokens} {x y z : Expr} {op : Arithmetic} → Spells Rule.sum ts x a → additive a op b → Spells Rule.product b y us → z ≡ e.Arithmetic op x y → Spells Rule.sum ts z us
+  only_sum : {ts us : Tokens} {x : Expr} → Spells Rule.sum ts x us → Spells Rule.membership ts x us
+  in_list : {ts a b c d f us : Tokens} {x y : Expr} {xs : List Expr} {negated : Bool} → Spells Rule.sum ts x a → said "not" a negated b → key "in" b tt c → mark sign.LeftParen c tt d → Spells Rule.expressions d xs f → mark sign.RightParen f tt us → y ≡ e.InList x xs negated → Spells Rule.membership ts y us
+  between : {ts a b c d f us : Tokens} {x y low high : Expr} {negated : Bool} → Spells Rule.sum ts x a → said "not" a negated b → key "between" b tt c → Spells Rule.sum c low d → key "and" d tt f → Spells Rule.sum f high us → y ≡ e.Between x low high negated → Spells Rule.membership ts y us
+  only_membership : {ts us : Tokens} {x : Expr} → Spells Rule.membership ts x us → Spells Rule.comparison ts x us
+  compared : {ts a b us : Tokens} {x y z : Expr} {op : Comparison} → Spells Rule.membership ts x a → comparison_operator a op b → Spells Rule.membership b y us → z ≡ e.Comparison op x y → Spells Rule.comparison ts z us
+  only_comparison : {ts us : Tokens} {x : Expr} → Spells Rule.comparison ts x us → Spells Rule.null_test ts x us
+  tested : {ts a b c us : Tokens} {x y : Expr} {negated : Bool} → Spells Rule.comparison ts x a → key "is" a tt b → said "not" b negated c → key "null" c tt us → y ≡ e.IsNull x negated → Spells Rule.null_test ts y us
+  negated : {ts a us : Tokens} {x y : Expr} → key "not" ts tt a → Spells Rule.negation a x us → y ≡ e.Not x → Spells Rule.negation ts y us
+  only_null_test : {ts us : Tokens} {x : Expr} → Spells Rule.null_test ts x us → Spells Rule.negation ts x us
+  conjoined : {ts us : Tokens} {x : Expr} {xs : List Expr} → Spells Rule.negations ts xs us → x ≡ operation e.And xs → Spells Rule.conjunction ts x us
+  disjoined : {ts us : Tokens} {x : Expr} {xs : List Expr} → Spells Rule.conjunctions ts xs us → x ≡ operation e.Or xs → Spells Rule.disjunction ts x us
+  last_negation : {ts us : Tokens} {x : Expr} {xs : List Expr} → Spells Rule.negation ts x us → xs ≡ x ∷ [] → Spells Rule.negations ts xs us
+  next_negation : {ts a b us : Tokens} {x : Expr} {xs ys : List Expr} → Spells Rule.negation ts x a → key "and" a tt b → Spells Rule.negations b xs us → ys ≡ x ∷ xs → Spells Rule.negations ts ys us
+  last_conjunction : {ts us : Tokens} {x : Expr} {xs : List Expr} → Spells Rule.conjunction ts x us → xs ≡ x ∷ [] → Spells Rule.conjunctions ts xs us
+  next_conjunction : {ts a b us : Tokens} {x : Expr} {xs ys : List Expr} → Spells Rule.conjunction ts x a → key "or" a tt b → Spells Rule.conjunctions b xs us → ys ≡ x ∷ xs → Spells Rule.conjunctions ts ys us
+  last_expression : {ts us : Tokens} {x : Expr} {xs : List Expr} → Spells Rule.disjunction ts x us → xs ≡ x ∷ [] → Spells Rule.expressions ts xs us
+  next_expression : {ts a b us : Tokens} {x : Expr} {xs ys : List Expr} → Spells Rule.disjunction ts x a → mark sign.Comma a tt b → Spells Rule.expressions b xs us → ys ≡ x ∷ xs → Spells Rule.expressions ts ys us
 
-  -- a `-` directly before a number makes a negative literal
-  unfoldable pub signed : Line Expr
-  signed = mark sign.Minus >> (λ digits. e.Literal (literal_of.Number (record { negative = true; digits = digits }))) <$> number
-      or mark sign.Minus >> unless number >> e.Minus <$> nested Signed
-      or primary
-
-  unfoldable pub product : Line Expr
-  product = chain multiplicative signed
-
-  unfoldable pub sum : Line Expr
-  sum = chain additive product
-
-  -- behind IN, and behind BETWEEN
-  unfoldable pub in_list : Expr → Bool → Line Expr
-  in_list operand negated = do mark sign.LeftParen; values ← list (nested Whole); mark sign.RightParen; gives (e.InList operand values negated)
-
-  unfoldable pub between : Expr → Bool → Line Expr
-  between operand negated = do low ← sum; key "and"; high ← sum; gives (e.Between operand low high negated)
-
-  unfoldable pub membership : Line Expr
-  membership = do
-    operand ← sum
-    (do negated ← said "not"; key "in" >> in_list operand negated)
-        or (do negated ← said "not"; key "between" >> between operand negated)
-        or gives operand
-
-  unfoldable pub comparison : Line Expr
-  comparison = do
-    left ← membership
-    (do op ← comparison_operator; right ← membership; gives (e.Comparison op left right)) or gives left
-
-  unfoldable pub null_test : Line Expr
-  null_test = do
-    operand ← comparison
-    (do key "is"; negated ← said "not"; key "null"; gives (e.IsNull operand negated)) or gives operand
-
-  unfoldable pub negation : Line Expr
-  negation = key "not" >> e.Not <$> nested Negated or null_test
-
-  unfoldable pub conjunction : Line Expr
-  conjunction = operation e.And <$> separated (key "and") negation
-
-  unfoldable pub disjunction : Line Expr
-  disjunction = operation e.Or <$> separated (key "or") conjunction
-
--- an expression at a line of the grammar, in which others are nested no deeper than the number
-unfoldable pub within : ℕ → Level → Line Expr
-within zero level = nowhere
-within (suc depth) Whole = disjunction (within depth)
-within (suc depth) Negated = negation (within depth)
-within (suc depth) Signed = signed (within depth)
-
--- an expression, with others nested however deep
+-- an expression
 unfoldable pub expression : Line Expr
-expression ts x us = (depth : ℕ) × disjunction (within depth) ts x us
+expression ts x us = Spells Rule.disjunction ts x us
 
 -- the longest expression that begins the tokens, and no other is as long
 abbrev pub longest : Line Expr
