@@ -4,7 +4,7 @@ use Rattle.sql_tokens.specs.declared.token.Token.{Token}
 use Rattle.sql_tokens.specs.Spelling.{TextSpells}
 use Rattle.sql_tree.specs.declared.command.Command.{Command}
 use Rattle.sql_tree.specs.declared.command.Command.TheVariants.{Statement, Prepare, Execute}
-use Rattle.sql_reader.specs.CommandGrammar.{IsRead}
+use Rattle.sql_reader.specs.Grammar.{IsRead}
 use Rattle.session_core.specs.declared.session.Done.{Done}
 use Rattle.session_core.specs.State.{State, Refuses}
 use Rattle.session_core.specs.Prepared.{Selects, Prepares, Executes, Unbuilt}

@@ -1,5 +1,5 @@
 -- Expressions are read exactly where they are spelt.
-use Rattle.std.proofs.Common.{◌≡◌, inl, inr, ℕ, zero, suc, ◌+◌, ◌≤◌, Bool, true, false, cond, not, ◌||◌, List, [], ◌∷◌, ◌++◌, length, Some, None, codes, refl, sym, ap, subst, ◌∙◌, arith}
+use Rattle.std.proofs.Common.{◌≡◌, ℕ, zero, suc, ◌+◌, ◌≤◌, Bool, true, false, cond, not, ◌||◌, List, [], ◌∷◌, ◌++◌, length, Some, None, codes, refl, arith}
 use Rattle.sql_tokens.specs.declared.token.Token.TheVariants as token
 use Rattle.sql_tokens.specs.declared.token.Sign.TheVariants as sign
 use Rattle.sql_tree.specs.declared.expr.Expr.{Expr}
@@ -10,17 +10,16 @@ use Rattle.sql_expr.specs.Reading.{Text, Tokens, Parser, ◌>>=◌, pure, refuse
 use Rattle.sql_expr.specs.Names.{is_reserved}
 use Rattle.sql_expr.specs.Names as names
 use Rattle.sql_expr.specs.Expressions as spec
-use Rattle.sql_expr.specs.Lines.{Line, nowhere, gives, unless, word as a_word, mark, name, number, parameter}
-use Rattle.sql_expr.specs.Lines as lines
+use Rattle.sql_expr.specs.Lines.{Line, name}
 use Rattle.sql_expr.specs.Ended.{is_ended}
 use Rattle.sql_expr.specs.Grammar as grammar
 use Rattle.sql_expr.proofs.Heads.{Barred, Head, clear, has_word}
-use Rattle.sql_expr.proofs.Agreement.{Agrees, nothing, beginning, tests-word, agrees-pure, agrees-refuse, agrees-bind, agrees-same, agrees-wider, agrees-fewer, agrees-test, agrees-word, agrees-sign, agrees-word-deeper, agrees-sign-deeper, agrees-expect_word, agrees-expect_sign, agrees-behind, agrees-said, agrees-taken, agrees-unless, agrees-one}
+use Rattle.sql_expr.proofs.Agreement.{Agrees, nothing, tests-word, agrees-pure, agrees-refuse, agrees-bind, agrees-wider, agrees-fewer, agrees-test, agrees-word, agrees-sign, agrees-word-deeper, agrees-sign-deeper, agrees-expect_word, agrees-expect_sign, agrees-behind, agrees-said, agrees-taken, agrees-unless, agrees-one}
 use Rattle.sql_expr.proofs.ExpressionLines as expr
 use Rattle.sql_expr.proofs.ExpressionCases.{spelt-by-line, line-spelt}
 use Rattle.sql_expr.proofs.ListAgreement.{agrees-list}
 use Rattle.sql_expr.proofs.OperandAgreement.{agrees-operands, agrees-chain}
-use Rattle.sql_expr.proofs.TokenKinds.{stands-name, stands-number, stands-constant, stands-comparison, stands-additive, stands-multiplicative, constant, constant_heads}
+use Rattle.sql_expr.proofs.TokenKinds.{stands-name, stands-number, stands-constant, stands-comparison, stands-additive, stands-multiplicative, constant_heads}
 
 -- the tokens with which an expression begins
 abbrev pub expression_heads : List Head

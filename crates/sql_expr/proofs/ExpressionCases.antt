@@ -1,17 +1,17 @@
 -- The cases of the grammar of expressions and the lines that are read: what a case spells its line spells, and what a line spells
 -- is spelt by a case.
-use Rattle.std.proofs.Common.{◌≡◌, inl, inr, ℕ, zero, suc, ◌+◌, ◌≤◌, Bool, true, false, List, [], ◌∷◌, ◌++◌, length, Some, None, codes, refl, sym, ap, subst, ◌∙◌, arith}
+use Rattle.std.proofs.Common.{◌≡◌, inl, inr, ℕ, zero, suc, ◌+◌, ◌≤◌, Bool, true, false, List, [], ◌∷◌, ◌++◌, length, Some, None, refl, sym, ap, subst, ◌∙◌, arith}
 use Rattle.sql_tokens.specs.declared.token.Token.{Token}
 use Rattle.sql_tokens.specs.declared.token.Sign.TheVariants as sign
 use Rattle.sql_tree.specs.declared.names.ColumnRef.{ColumnRef}
-use Rattle.sql_tree.specs.declared.expr.{Arithmetic.Arithmetic, Comparison.Comparison, Expr.Expr, Literal.Literal}
+use Rattle.sql_tree.specs.declared.expr.{Arithmetic.Arithmetic, Expr.Expr}
 use Rattle.sql_tree.specs.declared.expr.Expr.TheVariants as e
 use Prim.Native.String.{String}
 use Rattle.sql_expr.specs.declared.grammar.Level.{Level, TheVariants.Whole, TheVariants.Negated, TheVariants.Signed}
 use Rattle.sql_expr.specs.Lines.{Text, Tokens, TakesToken, Line, key, mark, name, gives, said, many, separated, list}
 use Rattle.sql_expr.specs.Lines as lines
-use Rattle.sql_expr.specs.Grammar.{literal, qualified, column, comparison_operator, additive, multiplicative, operation, Rule, Meaning, Spells, expression}
-use Rattle.sql_expr.proofs.Agreement.{Stands, one, beginning, ending}
+use Rattle.sql_expr.specs.Grammar.{literal, qualified, column, additive, multiplicative, Rule, Meaning, Spells, expression}
+use Rattle.sql_expr.proofs.Agreement.{one, beginning, ending}
 use Rattle.sql_expr.proofs.TokenKinds.{stands-name, stands-comparison, stands-additive, stands-multiplicative, literal-back}
 use Rattle.sql_expr.proofs.ExpressionLines.{grouped, applied, chain, within}
 use Rattle.sql_expr.proofs.ExpressionLines as expr

@@ -6,7 +6,7 @@ use Rattle.sql_expr.specs.Reading.{Tokens, Parser, ◌>>=◌, pure, eat_word}
 use Rattle.sql_expr.specs.Lines.{Line, gives, word as a_word}
 use Rattle.sql_expr.specs.Lines as lines
 use Rattle.sql_reader_session.specs.Blocks as spec
-use Rattle.sql_reader.specs.BlockGrammar as grammar
+use Rattle.sql_reader.specs.Grammar as grammar
 use Rattle.sql_expr.proofs.Heads.{Barred, Head}
 use Rattle.sql_expr.proofs.Agreement.{Agrees, nothing, agrees-pure, agrees-bind, agrees-same, agrees-wider, agrees-word, agrees-expect_word}
 use Rattle.sql_expr.proofs.ExpressionAgreement.{agrees-name}

@@ -17,8 +17,7 @@ use Rattle.sql_reader_query.specs.Lists as spec_lists
 use Rattle.sql_reader_query.specs.Names as spec_names
 use Rattle.sql_reader_query.specs.Outputs as spec_outputs
 use Rattle.sql_reader_query.specs.Query as spec_query
-use Rattle.sql_reader.specs.ChangeGrammar as grammar
-use Rattle.sql_reader.specs.QueryGrammar as names
+use Rattle.sql_reader.specs.Grammar as grammar
 use Rattle.sql_expr.proofs.Heads.{Barred, Head, all_avoid}
 use Rattle.sql_expr.proofs.Agreement.{Agrees, nothing, bar_word, bar_sign, agrees-pure, agrees-refuse, agrees-bind, agrees-same, agrees-wider, agrees-fewer, agrees-word, agrees-sign, agrees-expect_word, agrees-expect_sign}
 use Rattle.sql_expr.proofs.ListAgreement.{agrees-list}
@@ -44,7 +43,7 @@ returning_tail = also (codes "where" ∷ codes "returning" ∷ []) [] outputs_ta
 -- ---- INSERT
 
 abbrev target_line : Line InsertTarget
-target_line = lines.◌>>◌ (a_word (codes "into")) (lines.◌>>=◌ names.relation (λ table. lines.◌>>=◌ (any names.parenthesized_names) (λ columns. gives (record { table = table; columns = columns }))))
+target_line = lines.◌>>◌ (a_word (codes "into")) (lines.◌>>=◌ grammar.relation (λ table. lines.◌>>=◌ (any grammar.parenthesized_names) (λ columns. gives (record { table = table; columns = columns }))))
 
 abbrev rows_line : QName → List Text → Line InsertTree
 rows_line table columns = lines.◌>>◌ (a_word (codes "values")) (lines.◌>>=◌ (list grammar.row) (λ rows. lines.◌>>=◌ grammar.returning (λ given. gives (record { table = table; columns = columns; rows = rows; returning = given }))))
@@ -74,7 +73,7 @@ back ts i us (u, behind_into, into, (table, behind_table, named, (columns, end, 
     (record { table = table; columns = columns }, end, (u, behind_into, into, (table, behind_table, named, (columns, end, listed, (refl, refl)))), rest)
 
 agrees-target : {n : ℕ} → Agrees (Unit {0}) n spec.target target_line 2 (Head.word (codes "into") ∷ []) target_tail
-unfolding spec.target spec_names.optional_names names.parenthesized_names
+unfolding spec.target spec_names.optional_names grammar.parenthesized_names
 agrees-target = agrees-bind (agrees-expect_word (codes "into")) (λ u. agrees-bind agrees-relation (λ table.
     agrees-bind (agrees-sign sign.LeftParen (agrees-wider target_tail refl agrees-enclosed_names) (agrees-pure [] target_tail) refl) (λ columns. agrees-pure (record { table = table; columns = columns }) target_tail) refl) refl) refl
 
@@ -82,10 +81,10 @@ agrees-target = agrees-bind (agrees-expect_word (codes "into")) (λ u. agrees-bi
 
 -- a change as it is read
 abbrev updated_line : Line Change
-updated_line = lines.◌>>=◌ names.relation (λ table. lines.◌>>◌ (a_word (codes "set")) (lines.◌>>=◌ (list grammar.assignment) (λ assignments. gives (Update table assignments))))
+updated_line = lines.◌>>=◌ grammar.relation (λ table. lines.◌>>◌ (a_word (codes "set")) (lines.◌>>=◌ (list grammar.assignment) (λ assignments. gives (Update table assignments))))
 
 abbrev deleted_line : Line Change
-deleted_line = lines.◌>>◌ (a_word (codes "from")) (lines.◌>>=◌ names.relation (λ table. gives (Delete table)))
+deleted_line = lines.◌>>◌ (a_word (codes "from")) (lines.◌>>=◌ grammar.relation (λ table. gives (Delete table)))
 
 abbrev pub changed_line : Line Change
 changed_line = lines.◌or◌ (lines.◌>>◌ (a_word (codes "update")) updated_line) (lines.◌or◌ (lines.◌>>◌ (a_word (codes "delete")) deleted_line) nowhere)

@@ -6,7 +6,7 @@ use Rattle.sql_expr.specs.Lines.{Line, gives, many}
 use Rattle.sql_expr.specs.Lines as lines
 use Rattle.sql_reader_catalog.specs.declared.columns.Part.{Part}
 use Rattle.sql_reader_catalog.specs.Columns as spec
-use Rattle.sql_reader.specs.CatalogGrammar as grammar
+use Rattle.sql_reader.specs.Grammar as grammar
 use Rattle.sql_expr.proofs.Heads.{Head, clear}
 use Rattle.sql_expr.proofs.Agreement.{Agrees, bind_some, same_value, same_rest, same_read, read_then, agrees-bind}
 use Rattle.sql_expr.proofs.ExpressionAgreement.{agrees-name}

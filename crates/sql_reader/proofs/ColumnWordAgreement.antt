@@ -8,7 +8,7 @@ use Rattle.sql_expr.specs.Lines.{Line, name}
 use Rattle.sql_expr.specs.Lines as lines
 use Rattle.sql_expr.specs.Names.{sees_name}
 use Rattle.sql_reader_catalog.specs.Keywords as spec
-use Rattle.sql_reader.specs.CatalogGrammar as grammar
+use Rattle.sql_reader.specs.Grammar as grammar
 use Rattle.sql_expr.proofs.Heads.{Barred}
 use Rattle.sql_expr.proofs.Agreement.{word-seen, sees-word, two-tokens}
 use Rattle.sql_reader.proofs.KeywordAgreement.{Looks, looks-name, name-there, name-sees, behind-name}

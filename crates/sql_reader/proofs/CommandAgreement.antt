@@ -21,8 +21,8 @@ use Rattle.sql_reader.specs.declared.leading.Keyword.{Keyword}
 use Rattle.sql_reader.specs.Leading.{leading_words, keyword_of}
 use Rattle.sql_reader.specs.Commands.{from_keyword, from_word, whole, command_of, or_syntax_error, command_read}
 use Rattle.sql_reader.specs.Commands as spec
-use Rattle.sql_reader.specs.CommandGrammar.{prepared_command, cursor_command, block_command, setting_command, catalog_command, Spells, IsRead}
-use Rattle.sql_reader.specs.CommandGrammar as grammar
+use Rattle.sql_reader.specs.Grammar.{prepared_command, cursor_command, block_command, setting_command, catalog_command, SpellsAll, IsRead}
+use Rattle.sql_reader.specs.Grammar as grammar
 use Rattle.sql_reader_query.specs.Statements as statements
 use Rattle.sql_expr.proofs.Heads.{Barred, Head, begins}
 use Rattle.sql_expr.proofs.Agreement.{Agrees}
@@ -274,11 +274,11 @@ whole-read (Some (d, [])) c e = cc
 whole-read (Some (d, t ∷ ts)) c e = cc
 whole-read None c e = cc
 
-pub spelt-when-read : (ts : Tokens) (c : Command) → command_of ts ≡ Some c → Spells ts c
+pub spelt-when-read : (ts : Tokens) (c : Command) → command_of ts ≡ Some c → SpellsAll ts c
 unfolding command_of
 spelt-when-read ts c e = command-sound ts c [] (whole-read (spec.command ts) c e)
 
-pub read-when-spelt : (ts : Tokens) (c : Command) → Spells ts c → command_of ts ≡ Some c
+pub read-when-spelt : (ts : Tokens) (c : Command) → SpellsAll ts c → command_of ts ≡ Some c
 unfolding command_of
 read-when-spelt ts c spelt = ap whole (command-complete ts c spelt)
 
@@ -287,10 +287,10 @@ read-when-spelt ts c spelt = ap whole (command-complete ts c spelt)
 some-one : (c d : Command) → ◌≡◌ {A = Option Command} (Some c) (Some d) → c ≡ d
 some-one c d e = cc
 
-pub one_spelt : (tokens : List Token) (first second : Command) → Spells tokens first → Spells tokens second → first ≡ second
+pub one_spelt : (tokens : List Token) (first second : Command) → SpellsAll tokens first → SpellsAll tokens second → first ≡ second
 one_spelt tokens first second here there = some-one first second (sym (read-when-spelt tokens first here) ∙ read-when-spelt tokens second there)
 
-none-spelt : (tokens : List Token) → command_of tokens ≡ None → (c : Command) → ¬ Spells tokens c
+none-spelt : (tokens : List Token) → command_of tokens ≡ None → (c : Command) → ¬ SpellsAll tokens c
 none-spelt tokens none c spelt = let read = sym none ∙ read-when-spelt tokens c spelt in cc
 
 -- what was read, by whether the load passes the limit, and by what the tokens spell
@@ -303,7 +303,7 @@ read-cases tokens false None over here = inr (ltb-false 200 (load_of tokens) ove
 pub is-read : (tokens : List Token) → IsRead tokens (command_read tokens)
 is-read tokens = read-cases tokens (nat_lt 200 (load_of tokens)) (command_of tokens) refl refl
 
-none-other : (tokens : List Token) → ((c : Command) → ¬ Spells tokens c) → command_of tokens ≡ None
+none-other : (tokens : List Token) → ((c : Command) → ¬ SpellsAll tokens c) → command_of tokens ≡ None
 none-other tokens none = by (command_of tokens) refl
   where
     by : (found : Option Command) → command_of tokens ≡ found → command_of tokens ≡ None

@@ -14,7 +14,7 @@ use Rattle.sql_expr.specs.Lines.{Line, gives, mark}
 use Rattle.sql_expr.specs.Grammar.{literal as literal_line}
 use Rattle.sql_expr.specs.Lines as lines
 use Rattle.sql_reader_catalog.specs.Constants as spec
-use Rattle.sql_reader.specs.CatalogGrammar as grammar
+use Rattle.sql_reader.specs.Grammar as grammar
 use Rattle.sql_expr.proofs.Heads.{Barred, Head, bars, is}
 use Rattle.sql_expr.proofs.Agreement.{Agrees, Stands, nothing, agrees-pure, agrees-bind, agrees-same, agrees-fewer, agrees-expect_sign, agrees-one, agrees-taken}
 use Rattle.sql_expr.proofs.TokenKinds.{stands-number, literal-there, literal-back}

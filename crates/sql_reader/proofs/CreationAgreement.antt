@@ -11,8 +11,7 @@ use Rattle.sql_expr.specs.Lines.{Line, gives, word as a_word, said}
 use Rattle.sql_expr.specs.Lines as lines
 use Rattle.sql_reader_query.specs.Names.{optional_names}
 use Rattle.sql_reader_catalog.specs.Creation as spec
-use Rattle.sql_reader.specs.CatalogGrammar as grammar
-use Rattle.sql_reader.specs.QueryGrammar as names
+use Rattle.sql_reader.specs.Grammar as grammar
 use Rattle.sql_expr.proofs.Heads.{Barred, Head, all_avoid}
 use Rattle.sql_expr.proofs.Agreement.{Agrees, nothing, bar_word, agrees-pure, agrees-bind, agrees-same, agrees-wider, agrees-fewer, agrees-word, agrees-sign, agrees-expect_word}
 use Rattle.sql_expr.proofs.ExpressionAgreement.{agrees-name}
@@ -92,8 +91,8 @@ module _ {n : ℕ} where
   unfolding spec.or_replace
   agrees-or_replace = agrees-word (codes "or") (agrees-bind (agrees-expect_word (codes "replace")) (λ u. agrees-pure true create_words) refl) (agrees-pure false create_words) refl
 
-  pub agrees-optional_names : Agrees (Unit {0}) n optional_names (lines.◌or◌ names.parenthesized_names (gives [])) 0 (Head.sign sign.LeftParen ∷ Head.others opened ∷ []) opened
-  unfolding optional_names names.parenthesized_names
+  pub agrees-optional_names : Agrees (Unit {0}) n optional_names (lines.◌or◌ grammar.parenthesized_names (gives [])) 0 (Head.sign sign.LeftParen ∷ Head.others opened ∷ []) opened
+  unfolding optional_names grammar.parenthesized_names
   agrees-optional_names = agrees-sign sign.LeftParen (agrees-wider opened refl agrees-enclosed_names) (agrees-pure [] opened) refl
 
 abbrev indexed : Bool → Line Command

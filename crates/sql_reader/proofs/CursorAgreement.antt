@@ -17,8 +17,7 @@ use Rattle.sql_reader_session.specs.declared.cursors.CursorOption.{CursorOption}
 use Rattle.sql_reader_session.specs.declared.cursors.CursorOption.TheVariants.{Scroll, NoScroll, Insensitive, Asensitive}
 use Rattle.sql_reader_session.specs.Cursors.{option_of, cursor_option, with_option, no_options, options_from}
 use Rattle.sql_reader_session.specs.Cursors as spec
-use Rattle.sql_reader.specs.CursorGrammar as grammar
-use Rattle.sql_reader.specs.QueryGrammar as query_grammar
+use Rattle.sql_reader.specs.Grammar as grammar
 use Rattle.sql_expr.proofs.Heads.{Barred, Head, bars, clear, begins, begins-clear, clear-begins, begins-left, begins-right, not-true}
 use Rattle.sql_expr.proofs.Agreement.{Agrees, one, stands_for, taken-nothing, bind_some, nothing, bar_word, same_value, same_rest, same_read, read_then, word-seen, sees-no-word, taken-cases, agrees-pure, agrees-bind, agrees-same, agrees-fewer, agrees-word, agrees-expect_word, taking, two-tokens}
 use Rattle.sql_expr.proofs.ExpressionAgreement.{agrees-name}
@@ -258,7 +257,7 @@ abbrev declared : Text → CursorOptions → Bool → Select → Command
 declared cursor options held query = command.Declare (record { name = cursor; options = options; hold = held; query = statement.Select query })
 
 abbrev of_query : Text → CursorOptions → Bool → Line Command
-of_query cursor options held = lines.◌<$>◌ (declared cursor options held) query_grammar.select
+of_query cursor options held = lines.◌<$>◌ (declared cursor options held) grammar.select
 
 -- the line in the parts in which it is read
 abbrev ordered : Line Command

@@ -1,4 +1,4 @@
--- The examples are found by computing.
+-- The examples: ten texts by their derivations, and five of which reading gives none.
 use Rattle.std.proofs.Common.{◌≡◌, List, [], ◌∷◌, true, false, Option, Some, None, codes, refl, subst, sym, ◌∙◌}
 use Rattle.std.specs.Prelude.{Result, Ok, Err}
 use Rattle.q_base.specs.declared.errors.SqlError.{SqlError}
@@ -17,7 +17,9 @@ use Rattle.sql_tree.specs.declared.select.Join.TheVariants as join
 use Rattle.sql_tree.specs.declared.select.OutputItem.TheVariants as output
 use Rattle.sql_tree.specs.declared.statement.Statement.TheVariants as statement
 use Rattle.sql_reader.specs.Examples.{Derives, DerivesNone, Examples, number, column, relation, item, selected, computed, altered, plain}
-use Rattle.sql_reader.proofs.CommandAgreement.{spelt-when-read, read-when-spelt}
+use Rattle.sql_reader.specs.Grammar.{SpellsAll}
+use Rattle.sql_reader.proofs.CommandAgreement.{read-when-spelt}
+use Rattle.sql_reader.proofs.Derivations as derivations
 use Rattle.sql_tokens.specs.Tokens as tokens_tokens
 use Rattle.sql_expr.specs.Reading as expr_reading
 use Rattle.sql_expr.specs.Literals as expr_literals
@@ -56,8 +58,8 @@ found : (text : Text) (given : Result (List Token) SqlError) (c : Option Command
 found text (Ok tokens) c cut read = (tokens, subst (TextSpells text) cut (tokens_of-sound text), cc)
 found text (Err error) c cut read = cc
 
-derives : (text : Text) (c : Command) → read_text (tokens_tokens.tokens_of text) ≡ Some (Some c) → Derives text c
-derives text c read = let f = found text (tokens_tokens.tokens_of text) (Some c) refl read in (f.0, f.1, spelt-when-read f.0 c f.2)
+derives : (text : Text) (tokens : List Token) (c : Command) → tokens_tokens.tokens_of text ≡ Ok tokens → SpellsAll tokens c → Derives text c
+derives text tokens c cut spelt = (tokens, subst (TextSpells text) cut (tokens_of-sound text), spelt)
 
 derives_none : (text : Text) → read_text (tokens_tokens.tokens_of text) ≡ Some None → DerivesNone text
 derives_none text read =
@@ -104,16 +106,16 @@ unfolding chars encode tokens_tokens.after_block tokens_tokens.block_turn tokens
     session_motions.optional_motion session_numbers.number_of session_numbers.count session_numbers.integer
     session_numbers.begins_integer session_numbers.optional_integer
 examples = record {
-  negative_literal = derives (codes "SELECT - 5") (computed (number true (codes "5"))) refl;
-  between_with_and = derives (codes "SELECT a BETWEEN 1 AND 2 AND b") (computed (e.And (e.Between (column (codes "a")) (number false (codes "1")) (number false (codes "2")) false ∷ column (codes "b") ∷ []))) refl;
-  not_of_a_comparison = derives (codes "SELECT NOT a = b") (computed (e.Not (e.Comparison comparison.Equal (column (codes "a")) (column (codes "b"))))) refl;
-  chain_of_joins = derives (codes "SELECT * FROM a JOIN b ON c CROSS JOIN d") (selected output.All (record { first = item (codes "a"); joins = join.Inner (item (codes "b")) (column (codes "c")) ∷ join.Cross (item (codes "d")) ∷ [] } ∷ [])) refl;
-  column_as_name = derives (codes "ALTER TABLE t ADD column int") (altered (codes "t") (plain (codes "column"))) refl;
-  column_as_keyword = derives (codes "ALTER TABLE t ADD column a int") (altered (codes "t") (plain (codes "a"))) refl;
-  savepoint_as_name = derives (codes "RELEASE savepoint") (command.Release (codes "savepoint")) refl;
-  local_as_name = derives (codes "SET local = 1") (command.Set (record { name = codes "local"; local = false; value = value.List (record { text = codes "1"; number = true } ∷ []) })) refl;
-  prepare_as_name = derives (codes "DEALLOCATE prepare") (command.Deallocate (codes "prepare")) refl;
-  current_as_column = derives (codes "DELETE FROM t WHERE current = 1") (command.Statement (statement.Delete (record { table = relation (codes "t"); condition = Some (e.Comparison comparison.Equal (column (codes "current")) (number false (codes "1"))); returning = [] }))) refl;
+  negative_literal = derives (codes "SELECT - 5") derivations.in_negative_literal (computed (number true (codes "5"))) refl derivations.negative_literal;
+  between_with_and = derives (codes "SELECT a BETWEEN 1 AND 2 AND b") derivations.in_between_with_and (computed (e.And (e.Between (column (codes "a")) (number false (codes "1")) (number false (codes "2")) false ∷ column (codes "b") ∷ []))) refl derivations.between_with_and;
+  not_of_a_comparison = derives (codes "SELECT NOT a = b") derivations.in_not_of_a_comparison (computed (e.Not (e.Comparison comparison.Equal (column (codes "a")) (column (codes "b"))))) refl derivations.not_of_a_comparison;
+  chain_of_joins = derives (codes "SELECT * FROM a JOIN b ON c CROSS JOIN d") derivations.in_chain_of_joins (selected output.All (record { first = item (codes "a"); joins = join.Inner (item (codes "b")) (column (codes "c")) ∷ join.Cross (item (codes "d")) ∷ [] } ∷ [])) refl derivations.chain_of_joins;
+  column_as_name = derives (codes "ALTER TABLE t ADD column int") derivations.in_column_as_name (altered (codes "t") (plain (codes "column"))) refl derivations.column_as_name;
+  column_as_keyword = derives (codes "ALTER TABLE t ADD column a int") derivations.in_column_as_keyword (altered (codes "t") (plain (codes "a"))) refl derivations.column_as_keyword;
+  savepoint_as_name = derives (codes "RELEASE savepoint") derivations.in_savepoint_as_name (command.Release (codes "savepoint")) refl derivations.savepoint_as_name;
+  local_as_name = derives (codes "SET local = 1") derivations.in_local_as_name (command.Set (record { name = codes "local"; local = false; value = value.List (record { text = codes "1"; number = true } ∷ []) })) refl derivations.local_as_name;
+  prepare_as_name = derives (codes "DEALLOCATE prepare") derivations.in_prepare_as_name (command.Deallocate (codes "prepare")) refl derivations.prepare_as_name;
+  current_as_column = derives (codes "DELETE FROM t WHERE current = 1") derivations.in_current_as_column (command.Statement (statement.Delete (record { table = relation (codes "t"); condition = Some (e.Comparison comparison.Equal (column (codes "current")) (number false (codes "1"))); returning = [] }))) refl derivations.current_as_column;
   two_comparisons = derives_none (codes "SELECT 1 = 2 = 3") refl;
   not_before_an_operand = derives_none (codes "SELECT a NOT 1") refl;
   direction_without_name = derives_none (codes "FETCH next") refl;

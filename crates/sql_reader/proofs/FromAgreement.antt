@@ -10,7 +10,7 @@ use Rattle.sql_expr.specs.Lines as lines
 use Rattle.sql_expr.specs.Grammar as expression
 use Rattle.sql_reader_query.specs.Lists as spec_lists
 use Rattle.sql_reader_query.specs.FromClause as spec
-use Rattle.sql_reader.specs.QueryGrammar as grammar
+use Rattle.sql_reader.specs.Grammar as grammar
 use Rattle.sql_expr.proofs.Heads.{Barred, Head, all_avoid}
 use Rattle.sql_expr.proofs.Agreement.{Agrees, agrees-pure, agrees-refuse, agrees-bind, agrees-same, agrees-fewer, agrees-word, agrees-expect_word, beginning}
 use Rattle.sql_expr.proofs.ListAgreement.{agrees-list}

@@ -7,6 +7,7 @@ pub mod CommandAgreement
 pub mod ConstantAgreement
 pub mod CreationAgreement
 pub mod CursorAgreement
+pub mod Derivations
 pub mod Examples
 pub mod FromAgreement
 pub mod KeywordAgreement

@@ -14,7 +14,7 @@ use Rattle.sql_expr.specs.Literals.{digits_of, param_of}
 use Rattle.sql_expr.specs.Lines.{Line, gives, word as a_word, mark, number, parameter, maybe, TakesToken}
 use Rattle.sql_expr.specs.Lines as lines
 use Rattle.sql_reader_query.specs.Limits as spec
-use Rattle.sql_reader.specs.QueryGrammar as grammar
+use Rattle.sql_reader.specs.Grammar as grammar
 use Rattle.sql_expr.proofs.Heads.{Barred, Head, bars, is, all_avoid}
 use Rattle.sql_expr.proofs.Agreement.{Agrees, Stands, nothing, tests-sign, bar_word, agrees-pure, agrees-bind, agrees-same, agrees-fewer, agrees-word, agrees-taken, agrees-one, agrees-test, taking, beginning}
 use Rattle.sql_expr.proofs.TokenKinds.{stands-number}

@@ -11,8 +11,7 @@ use Rattle.sql_expr.specs.Lines as lines
 use Rattle.sql_expr.specs.Names as names
 use Rattle.sql_reader_session.specs.Prepared as prepared
 use Rattle.sql_reader_session.specs.Lines as spec
-use Rattle.sql_reader.specs.PreparedGrammar as prepared_grammar
-use Rattle.sql_reader.specs.CommandGrammar as grammar
+use Rattle.sql_reader.specs.Grammar as grammar
 use Rattle.sql_expr.proofs.Heads.{clear}
 use Rattle.sql_expr.proofs.Agreement.{Agrees, agrees-pure, agrees-bind, agrees-wider}
 use Rattle.sql_expr.proofs.ExpressionAgreement.{agrees-name}
@@ -44,7 +43,7 @@ module _ (n : ℕ) where
   alone : (c : Command) → Behind (pure c) (gives c)
   alone c = agrees-anything (agrees-pure c statement_tail)
 
-  parse : Behind (command.Parse <$> prepared.prepare_tree) (lines.◌<$>◌ command.Parse prepared_grammar.prepare_tree)
+  parse : Behind (command.Parse <$> prepared.prepare_tree) (lines.◌<$>◌ command.Parse grammar.prepare_tree)
   parse = agrees-anything (agrees-map command.Parse agrees-prepare_tree)
 
   bind : Behind (command.Bind <$> spec.bind_tree) (lines.◌<$>◌ command.Bind grammar.bind_tree)

@@ -23,7 +23,7 @@ use Rattle.sql_reader_session.specs.Motions.{direction_of, direction_of_word}
 use Rattle.sql_reader_session.specs.Motions as spec
 use Rattle.sql_reader_session.specs.Numbers.{decimal_after, number_of, begins_integer, signed}
 use Rattle.sql_reader_session.specs.Numbers as numbers
-use Rattle.sql_reader.specs.CursorGrammar as grammar
+use Rattle.sql_reader.specs.Grammar as grammar
 use Rattle.sql_expr.proofs.Heads.{Barred, Head, bars, is, clear, begins, begins-clear, clear-begins}
 use Rattle.sql_expr.proofs.Agreement.{Agrees, Stands, one, agrees-unless, nothing, agrees-pure, agrees-bind, agrees-same, agrees-wider, agrees-word, agrees-one, agrees-test, tests-sign, taking}
 use Rattle.sql_expr.proofs.ExpressionAgreement.{agrees-name}

@@ -8,7 +8,7 @@ use Rattle.sql_expr.specs.Lines as lines
 use Rattle.sql_reader_catalog.specs.declared.columns.Part.{Part}
 use Rattle.sql_reader_catalog.specs.declared.columns.Part.TheVariants as variant
 use Rattle.sql_reader_catalog.specs.Columns as spec
-use Rattle.sql_reader.specs.CatalogGrammar as grammar
+use Rattle.sql_reader.specs.Grammar as grammar
 use Rattle.sql_expr.proofs.Heads.{Barred, Head, clear, begins-clear, begins-right}
 use Rattle.sql_expr.proofs.Agreement.{Agrees, same_read, read_then, nothing, agrees-pure, agrees-bind, agrees-word, agrees-expect_word, two-tokens}
 use Rattle.sql_reader.proofs.ConstantAgreement.{agrees-constant}

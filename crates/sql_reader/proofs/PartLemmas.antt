@@ -14,8 +14,8 @@ use Rattle.sql_expr.specs.Reading.{Text}
 use Rattle.sql_reader_catalog.specs.declared.columns.Part.{Part}
 use Rattle.sql_reader_catalog.specs.declared.columns.Part.TheVariants as variant
 use Rattle.sql_reader_catalog.specs.Columns.{repeats, with_part, bare, is_said}
-use Rattle.sql_reader.specs.CatalogGrammar.{same_kind, none_twice, nullability_of, default_of, keys_of}
-use Rattle.sql_reader.specs.CatalogGrammar as grammar
+use Rattle.sql_reader.specs.Grammar.{same_kind, none_twice, nullability_of, default_of, keys_of}
+use Rattle.sql_reader.specs.Grammar as grammar
 
 -- the part that the reading function makes of it
 abbrev pub meant : grammar.Part → Part

@@ -11,10 +11,9 @@ use Rattle.sql_expr.specs.Names.{is_reserved, sees_name}
 use Rattle.sql_expr.specs.Names as names
 use Rattle.sql_reader_query.specs.Names.{optional_names}
 use Rattle.sql_reader_session.specs.Prepared as spec
-use Rattle.sql_reader.specs.ChangeGrammar.{statement}
-use Rattle.sql_reader.specs.QueryGrammar as name_grammar
-use Rattle.sql_reader.specs.PreparedGrammar as grammar
-use Rattle.sql_reader.specs.PreparedGrammar.{deallocated as target}
+use Rattle.sql_reader.specs.Grammar.{statement}
+use Rattle.sql_reader.specs.Grammar as grammar
+use Rattle.sql_reader.specs.Grammar.{deallocated as target}
 use Rattle.sql_expr.proofs.Heads.{Barred, Head, and-left, and-right}
 use Rattle.sql_expr.proofs.Agreement.{Agrees, nothing, bar_sign, word-seen, sees-word, tests-word, agrees-pure, agrees-refuse, agrees-bind, agrees-same, agrees-wider, agrees-test, agrees-word, agrees-sign, agrees-expect_word, agrees-expect_sign}
 use Rattle.sql_expr.proofs.ListAgreement.{agrees-list}
@@ -120,8 +119,8 @@ module _ {n : ℕ} where
   -- ---- PREPARE and EXPLAIN
 
   -- ["(" names ")"]
-  agrees-types : Agrees (Unit {0}) n optional_names (any name_grammar.parenthesized_names) 0 (Head.sign sign.LeftParen ∷ Head.others (bar_sign sign.LeftParen) ∷ []) (bar_sign sign.LeftParen)
-  unfolding optional_names name_grammar.parenthesized_names
+  agrees-types : Agrees (Unit {0}) n optional_names (any grammar.parenthesized_names) 0 (Head.sign sign.LeftParen ∷ Head.others (bar_sign sign.LeftParen) ∷ []) (bar_sign sign.LeftParen)
+  unfolding optional_names grammar.parenthesized_names
   agrees-types = agrees-sign sign.LeftParen (agrees-wider (bar_sign sign.LeftParen) refl agrees-enclosed_names) (agrees-pure [] (bar_sign sign.LeftParen)) refl
 
   pub agrees-prepare_tree : Agrees (Unit {0}) n spec.prepare_tree grammar.prepare_tree 3 (Head.name ∷ []) statement_tail

@@ -6,7 +6,7 @@ use Rattle.sql_expr.specs.Lines.{Line, gives, word as a_word, list}
 use Rattle.sql_expr.specs.Lines as lines
 use Rattle.sql_reader_query.specs.Lists as spec_lists
 use Rattle.sql_reader_query.specs.Query as spec
-use Rattle.sql_reader.specs.QueryGrammar as grammar
+use Rattle.sql_reader.specs.Grammar as grammar
 use Rattle.sql_expr.proofs.Heads.{Barred, Head}
 use Rattle.sql_expr.proofs.Agreement.{Agrees, nothing, tests-word, agrees-pure, agrees-bind, agrees-same, agrees-word, agrees-expect_word, agrees-test}
 use Rattle.sql_expr.proofs.ListAgreement.{agrees-list}
@@ -90,12 +90,12 @@ module _ {n : ℕ} where
   agrees-grouping = agrees-bind (agrees-any (codes "group") keys_tail (agrees-bind (agrees-expect_word (codes "by")) (λ u. agrees-list keys_tail agrees-column refl refl) refl) refl refl) (λ keys.
       agrees-bind (agrees-maybe (codes "having") grouping_tail agrees-expression refl refl) (λ having. agrees-pure (record { keys = keys; having = having }) grouping_tail) refl) refl
 
-  pub agrees-key : Agrees (Unit {0}) n spec.key grammar.key 1 expression_heads key_tail
-  unfolding spec.key grammar.key is_reserved
+  pub agrees-key : Agrees (Unit {0}) n spec.key grammar.sort_key 1 expression_heads key_tail
+  unfolding spec.key grammar.sort_key is_reserved
   agrees-key = agrees-bind agrees-expression (λ expr. agrees-bind agrees-descending (λ falls. agrees-bind (agrees-nulls_first falls)
       (λ first. agrees-pure (record { expr = expr; descending = falls; nulls_first = first }) key_tail) refl) refl) refl
 
-  agrees-order : Agrees (Unit {0}) n spec.order (lines.any (lines.◌>>◌ (a_word (codes "order")) (lines.◌>>◌ (a_word (codes "by")) (list grammar.key)))) 0 (Head.word (codes "order") ∷ Head.others order_tail ∷ []) order_tail
+  agrees-order : Agrees (Unit {0}) n spec.order (lines.any (lines.◌>>◌ (a_word (codes "order")) (lines.◌>>◌ (a_word (codes "by")) (list grammar.sort_key)))) 0 (Head.word (codes "order") ∷ Head.others order_tail ∷ []) order_tail
   unfolding spec.order spec_lists.listed is_reserved
   agrees-order = agrees-any (codes "order") order_tail (agrees-bind (agrees-expect_word (codes "by")) (λ u. agrees-list order_tail agrees-key refl refl) refl) refl refl
 

@@ -13,8 +13,8 @@ use Rattle.sql_expr.specs.Lines as lines
 use Rattle.sql_expr.specs.Names.{is_reserved, sees_name}
 use Rattle.sql_reader_query.specs.Names.{relation}
 use Rattle.sql_reader_catalog.specs.Removal as spec
-use Rattle.sql_reader.specs.CatalogGrammar as grammar
-use Rattle.sql_reader.specs.QueryGrammar as names
+use Rattle.sql_expr.specs.Grammar.{qualified}
+use Rattle.sql_reader.specs.Grammar as grammar
 use Rattle.sql_expr.proofs.Heads.{Barred, Head, clear, begins-clear, clear-begins, not-true}
 use Rattle.sql_expr.proofs.Agreement.{Agrees, nothing, bar_sign, tests-word, agrees-pure, agrees-refuse, agrees-bind, agrees-same, agrees-fewer, agrees-test, agrees-word}
 use Rattle.sql_expr.proofs.ExpressionAgreement.{agrees-name}
@@ -83,7 +83,7 @@ module _ {n : ℕ} where
 -- ---- TRUNCATE
 
 abbrev truncated : Line Command
-truncated = lines.◌<$>◌ command.Truncate names.relation
+truncated = lines.◌<$>◌ command.Truncate grammar.relation
 
 module _ {n : ℕ} where
   agrees-truncated : Agrees (Unit {0}) n (command.Truncate <$> relation) truncated 1 (Head.name ∷ []) (bar_sign sign.Dot)
@@ -99,8 +99,8 @@ module _ {n : ℕ} where
 abbrev pub analyze_tail : Barred
 analyze_tail = record bar_names { signs = sign.Dot ∷ [] }
 
-seen : (ts : Tokens) (c : Command) (us : Tokens) → (lines.◌<$>◌ (λ table. command.Analyze (Some table)) names.relation) ts c us → sees_name ts ≡ true
-unfolding names.relation names.qualified sees_name
+seen : (ts : Tokens) (c : Command) (us : Tokens) → (lines.◌<$>◌ (λ table. command.Analyze (Some table)) grammar.relation) ts c us → sees_name ts ≡ true
+unfolding grammar.relation qualified sees_name
 seen ts c us (table, last, (q, end, inl (first, middle, spelt, dotted), given), rest) = name-sees ts first middle spelt
 seen ts c us (table, last, (q, end, inr (first, middle, spelt, alone), given), rest) = name-sees ts first middle spelt
 

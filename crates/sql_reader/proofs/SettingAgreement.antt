@@ -18,7 +18,7 @@ use Rattle.sql_expr.specs.Names as names
 use Rattle.sql_reader_session.specs.Keywords.{eat_before_name}
 use Rattle.sql_reader_session.specs.Settings.{text_of, is_setting_word}
 use Rattle.sql_reader_session.specs.Settings as spec
-use Rattle.sql_reader.specs.BlockGrammar as grammar
+use Rattle.sql_reader.specs.Grammar as grammar
 use Rattle.sql_expr.proofs.Heads.{Barred, Head, bars, is}
 use Rattle.sql_expr.proofs.Agreement.{Agrees, Stands, nothing, bar_sign, agrees-pure, agrees-bind, agrees-same, agrees-word, agrees-taken, agrees-expect_sign, one, beginning, taking, ending}
 use Rattle.sql_expr.proofs.ListAgreement.{agrees-list}

@@ -13,8 +13,7 @@ use Rattle.sql_expr.specs.Lines as lines
 use Rattle.sql_reader_query.specs.Changes as spec_changes
 use Rattle.sql_reader_query.specs.Query as spec_query
 use Rattle.sql_reader_query.specs.Statements as spec
-use Rattle.sql_reader.specs.ChangeGrammar as grammar
-use Rattle.sql_reader.specs.QueryGrammar as query
+use Rattle.sql_reader.specs.Grammar as grammar
 use Rattle.sql_expr.proofs.Heads.{Barred, Head, and-left, and-right}
 use Rattle.sql_expr.proofs.Agreement.{Agrees, word-seen, agrees-pure, agrees-bind, agrees-same, agrees-wider, agrees-fewer, agrees-word, two-tokens}
 use Rattle.sql_reader.proofs.OptionalAgreement.{also, agrees-read, agrees-looking-unless}
@@ -62,7 +61,7 @@ by_word f other = do
 
 abbrev by_word_line : {B : Type 0} → (Statement → B) → Line B → Line B
 by_word_line f other =
-    lines.◌or◌ (lines.◌>>◌ (a_word (codes "select")) (lines.◌<$>◌ (λ s. f (Select s)) query.selection))
+    lines.◌or◌ (lines.◌>>◌ (a_word (codes "select")) (lines.◌<$>◌ (λ s. f (Select s)) grammar.selection))
     (lines.◌or◌ (lines.◌>>◌ (a_word (codes "insert")) (lines.◌<$>◌ (λ i. f (Insert i)) grammar.insertion)) other)
 
 -- a statement that was read, and what is made of it
@@ -87,13 +86,13 @@ abbrev searched_line : Line Statement
 searched_line = lines.◌>>=◌ changed_line (λ c. grammar.searched (spec_changes.statement_of c))
 
 statement-there : (ts : Tokens) (s : Statement) (us : Tokens) → by_word_line (λ s. s) searched_line ts s us → grammar.statement ts s us
-unfolding grammar.statement query.select
+unfolding grammar.statement grammar.select
 statement-there ts s us (inl (u, middle, select, (q, end, spelt, given))) = inl (inl (q, end, (u, middle, select, spelt), given))
 statement-there ts s us (inr (inl (u, middle, insert, (i, end, spelt, given)))) = inl (inr (i, end, (u, middle, insert, spelt), given))
 statement-there ts s us (inr (inr (c, middle, changed, rest))) = inr (spec_changes.statement_of c, middle, changed-there ts c middle changed, rest)
 
 statement-back : (ts : Tokens) (s : Statement) (us : Tokens) → grammar.statement ts s us → by_word_line (λ s. s) searched_line ts s us
-unfolding grammar.statement query.select
+unfolding grammar.statement grammar.select
 statement-back ts s us (inl (inl (q, end, (u, middle, select, spelt), given))) = inl (u, middle, select, (q, end, spelt, given))
 statement-back ts s us (inl (inr (i, end, (u, middle, insert, spelt), given))) = inr (inl (u, middle, insert, (i, end, spelt, given)))
 statement-back ts s us (inr (f, middle, changed, rest)) =
@@ -110,13 +109,13 @@ abbrev changing_line : Change → Line Command
 changing_line c = changing_of (spec_changes.statement_of c)
 
 command-there : (ts : Tokens) (b : Command) (us : Tokens) → by_word_line command.Statement (lines.◌>>=◌ changed_line changing_line) ts b us → grammar.statement_command ts b us
-unfolding grammar.statement_command query.select
+unfolding grammar.statement_command grammar.select
 command-there ts b us (inl (u, middle, select, (q, end, spelt, given))) = inl (Select q, end, inl (q, end, (u, middle, select, spelt), (refl, refl)), given)
 command-there ts b us (inr (inl (u, middle, insert, (i, end, spelt, given)))) = inl (Insert i, end, inr (i, end, (u, middle, insert, spelt), (refl, refl)), given)
 command-there ts b us (inr (inr (c, middle, changed, rest))) = inr (spec_changes.statement_of c, middle, changed-there ts c middle changed, rest)
 
 command-back : (ts : Tokens) (b : Command) (us : Tokens) → grammar.statement_command ts b us → by_word_line command.Statement (lines.◌>>=◌ changed_line changing_line) ts b us
-unfolding grammar.statement_command query.select
+unfolding grammar.statement_command grammar.select
 command-back ts b us (inl (s, end, inl (q, rest, (u, middle, select, spelt), same), given)) =
     inl (u, middle, select, (q, rest, spelt, (given.0 ∙ ap command.Statement same.0, given.1 ∙ same.1)))
 command-back ts b us (inl (s, end, inr (i, rest, (u, middle, insert, spelt), same), given)) =

@@ -11,7 +11,7 @@ use Rattle.sql_expr.specs.Lines.{Line, gives, word as a_word}
 use Rattle.sql_expr.specs.Lines as lines
 use Rattle.sql_expr.specs.Names.{is_reserved}
 use Rattle.sql_reader_catalog.specs.Tables as spec
-use Rattle.sql_reader.specs.CatalogGrammar as grammar
+use Rattle.sql_reader.specs.Grammar as grammar
 use Rattle.sql_expr.proofs.Heads.{Barred, Head}
 use Rattle.sql_expr.proofs.Agreement.{Agrees, nothing, bar_word, agrees-pure, agrees-bind, agrees-same, agrees-fewer, agrees-word, agrees-expect_word, agrees-expect_sign}
 use Rattle.sql_expr.proofs.ListAgreement.{agrees-list}

@@ -20,15 +20,15 @@ use Rattle.sql_tree.specs.declared.select.OutputItem.{OutputItem}
 use Rattle.sql_tree.specs.declared.select.OutputItem.TheVariants as output
 use Rattle.sql_tree.specs.declared.statement.Statement.TheVariants as statement
 use Rattle.sql_expr.specs.Lines.{Text}
-use Rattle.sql_reader.specs.CommandGrammar.{Spells}
+use Rattle.sql_reader.specs.Grammar.{SpellsAll}
 
 -- the text spells tokens, and these the command
 abbrev pub Derives : Text → Command → Type 0
-Derives text c = (tokens : List Token) × TextSpells text (Ok tokens) × Spells tokens c
+Derives text c = (tokens : List Token) × TextSpells text (Ok tokens) × SpellsAll tokens c
 
 -- the text spells tokens, and these no command
 abbrev pub DerivesNone : Text → Type 0
-DerivesNone text = (tokens : List Token) × TextSpells text (Ok tokens) × ((c : Command) → ¬ Spells tokens c)
+DerivesNone text = (tokens : List Token) × TextSpells text (Ok tokens) × ((c : Command) → ¬ SpellsAll tokens c)
 
 -- ---- trees
 

@@ -1,10 +1,4 @@
-pub mod BlockGrammar
-pub mod CatalogGrammar
-pub mod ChangeGrammar
-pub mod CommandGrammar
+pub mod Grammar
 pub mod Commands
-pub mod CursorGrammar
 pub mod Examples
 pub mod Leading
-pub mod PreparedGrammar
-pub mod QueryGrammar

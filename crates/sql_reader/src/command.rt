@@ -1,7 +1,7 @@
 ghost use Rattle.std.specs.Prelude.{◌≡◌, Some, Ok, Err, MatchResult};
 ghost use Rattle.q_base.specs.Stops.{StopsBy};
 ghost use Rattle.sql_expr.specs.Reading.{Reads};
-ghost use Rattle.sql_reader.specs.CommandGrammar.{IsRead};
+ghost use Rattle.sql_reader.specs.Grammar.{IsRead};
 ghost use Rattle.sql_reader.specs.Commands as spec;
 
 use crate::leading::{CatalogWord, Keyword, SessionWord, keyword_of};

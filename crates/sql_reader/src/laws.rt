@@ -3,13 +3,13 @@ ghost use Rattle.std.specs.Prelude.{◌≡◌, ◌↔◌, List, Result};
 ghost use Rattle.q_base.specs.declared.errors.SqlError.{SqlError};
 ghost use Rattle.sql_tokens.specs.declared.token.Token.{Token};
 ghost use Rattle.sql_tree.specs.declared.command.Command.{Command};
-ghost use Rattle.sql_reader.specs.CommandGrammar.{IsRead, Spells};
+ghost use Rattle.sql_reader.specs.Grammar.{IsRead, SpellsAll};
 ghost use Rattle.sql_reader.specs.Commands.{command_read};
 ghost use Rattle.sql_reader.specs.Examples.{Examples};
 
 /// A list of tokens spells at most one command.
 pub fn one_command()
-    ensures { (tokens : List Token) (first second : Command) → Spells tokens first → Spells tokens second → first ≡ second }
+    ensures { (tokens : List Token) (first second : Command) → SpellsAll tokens first → SpellsAll tokens second → first ≡ second }
 {}
 
 /// A list of tokens is read as one command or one refusal.
