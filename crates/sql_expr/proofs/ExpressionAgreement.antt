@@ -87,7 +87,7 @@ module _ {S : Type 0} {n : ℕ} (deeper : Level → Parser Expr) (nested : Level
       (agrees-bind (agrees-expect_sign sign.RightParen) (λ u. agrees-pure (e.CallStar function) nothing) refl)
       (agrees-bind whole (λ argument. agrees-bind (agrees-expect_sign sign.RightParen) (λ u. agrees-pure (e.Call function argument) nothing) refl) refl) refl)
 
-  agrees-column : (first : Text) → Agrees S (suc n) (spec.column first) (expr.columned nested first) 0 (Head.sign sign.Dot ∷ Head.others primary_tail ∷ []) primary_tail
+  agrees-column : (first : Text) → Agrees S (suc n) (spec.column first) (expr.columned first) 0 (Head.sign sign.Dot ∷ Head.others primary_tail ∷ []) primary_tail
   unfolding spec.column
   agrees-column first = agrees-fewer 0 (omega arith) (agrees-sign sign.Dot
       (agrees-bind agrees-name (λ second. agrees-pure (e.Column (record { item = Some first; name = second })) primary_tail) refl)

@@ -8,7 +8,7 @@ use Rattle.sql_tree.specs.declared.expr.{Arithmetic.Arithmetic, Expr.Expr}
 use Rattle.sql_tree.specs.declared.expr.Expr.TheVariants as e
 use Prim.Native.String.{String}
 use Rattle.sql_expr.specs.declared.grammar.Level.{Level, TheVariants.Whole, TheVariants.Negated, TheVariants.Signed}
-use Rattle.sql_expr.specs.Lines.{Text, Tokens, TakesToken, Line, key, mark, name, gives, said, many, separated, list}
+use Rattle.sql_expr.specs.Lines.{Text, Tokens, TakesToken, Line, key, mark, name, said, many, separated, list}
 use Rattle.sql_expr.specs.Lines as lines
 use Rattle.sql_expr.specs.Grammar.{literal, qualified, column, additive, multiplicative, Rule, Meaning, Spells, expression}
 use Rattle.sql_expr.proofs.Agreement.{one, beginning, ending}
@@ -18,70 +18,70 @@ use Rattle.sql_expr.proofs.ExpressionLines as expr
 
 -- ---- what is spelt takes a token
 
-less-of-token : {t : Token} {ts us : Tokens} → TakesToken t ts us → length ts ≡ 1 + length us
-less-of-token taken = let same = ap length taken.tokens in omega (arith, same)
+token-takes : {t : Token} {ts us : Tokens} → TakesToken t ts us → length ts ≡ 1 + length us
+token-takes taken = let same = ap length taken.tokens in omega (arith, same)
 
-less-of-one : {A : Type 0} {value_of : Token → _} {ts us : Tokens} {a : A} → one value_of ts a us → length ts ≡ 1 + length us
-less-of-one (t, taken, v) = less-of-token taken
+one-takes : {A : Type 0} {value_of : Token → _} {ts us : Tokens} {a : A} → one value_of ts a us → length ts ≡ 1 + length us
+one-takes (t, taken, v) = token-takes taken
 
-less-of-name : {ts us : Tokens} {n : Text} → name ts n us → length ts ≡ 1 + length us
-less-of-name spelt = less-of-one (stands-name.back _ _ _ spelt)
+pub name-takes : {ts us : Tokens} {n : Text} → name ts n us → length ts ≡ 1 + length us
+name-takes spelt = one-takes (stands-name.back _ _ _ spelt)
 
-none-of-said : (w : String) {ts us : Tokens} {b : Bool} → said w ts b us → length us ≤ length ts
-none-of-said w (inl (u, middle, taken, (same, end))) = let first = ap length taken.tokens in let rest = ap length end in omega (arith, first, rest)
-none-of-said w (inr (same, end)) = let rest = ap length end in omega (arith, rest)
+said-takes : (w : String) {ts us : Tokens} {b : Bool} → said w ts b us → length us ≤ length ts
+said-takes w (inl (u, middle, taken, (same, end))) = let first = ap length taken.tokens in let rest = ap length end in omega (arith, first, rest)
+said-takes w (inr (same, end)) = let rest = ap length end in omega (arith, rest)
 
-less-of-column : (ts : Tokens) (c : ColumnRef) (us : Tokens) → column ts c us → 1 + length us ≤ length ts
+column-takes : (ts : Tokens) (c : ColumnRef) (us : Tokens) → column ts c us → 1 + length us ≤ length ts
 unfolding column qualified
-less-of-column ts x us (q, a, inl (first, b, front, (u, c, dot, (second, d, back, (same, end)))), (value, last)) =
-    let one_less = less-of-name front in
-    let two_less = less-of-token dot in
-    let three_less = less-of-name back in
+column-takes ts x us (q, a, inl (first, b, front, (u, c, dot, (second, d, back, (same, end)))), (value, last)) =
+    let one_less = name-takes front in
+    let two_less = token-takes dot in
+    let three_less = name-takes back in
     let there = ap length end in
     let here = ap length last in
     omega (arith, one_less, two_less, three_less, there, here)
-less-of-column ts x us (q, a, inr (only, b, front, (same, end)), (value, last)) =
-    let one_less = less-of-name front in
+column-takes ts x us (q, a, inr (only, b, front, (same, end)), (value, last)) =
+    let one_less = name-takes front in
     let there = ap length end in
     let here = ap length last in
     omega (arith, one_less, there, here)
 
-pub takes : {rule : Rule} {ts us : Tokens} {x : Meaning rule} → Spells rule ts x us → 1 + length us ≤ length ts
-takes (Spells.constant l same) = let a = less-of-one (literal-back _ _ _ l) in omega (arith, a)
-takes (Spells.param p same) = let a = less-of-token p in omega (arith, a)
-takes (Spells.column_reference c same) = less-of-column _ _ _ c
+takes : {rule : Rule} {ts us : Tokens} {x : Meaning rule} → Spells rule ts x us → 1 + length us ≤ length ts
+takes (Spells.plain_literal l same) = let a = one-takes (literal-back _ _ _ l) in omega (arith, a)
+takes (Spells.param p same) = let a = token-takes p in omega (arith, a)
+takes (Spells.column_reference c same) = column-takes _ _ _ c
 takes (Spells.call_star f opened star closed same) =
-    let a = less-of-name f in let b = less-of-token opened in let c = less-of-token star in let d = less-of-token closed in omega (arith, a, b, c, d)
+    let a = name-takes f in let b = token-takes opened in let c = token-takes star in let d = token-takes closed in omega (arith, a, b, c, d)
 takes (Spells.call f opened x closed same) =
-    let a = less-of-name f in let b = less-of-token opened in let c = takes x in let d = less-of-token closed in omega (arith, a, b, c, d)
-takes (Spells.parenthesized opened x closed same) = let a = less-of-token opened in let b = takes x in let c = less-of-token closed in omega (arith, a, b, c)
-takes (Spells.negative_literal minus number same) = let a = less-of-token minus in let b = less-of-token number in omega (arith, a, b)
-takes (Spells.minus minus none x same) = let a = less-of-token minus in let b = ap length none.0 in let c = takes x in omega (arith, a, b, c)
+    let a = name-takes f in let b = token-takes opened in let c = takes x in let d = token-takes closed in omega (arith, a, b, c, d)
+takes (Spells.parenthesized opened x closed same) = let a = token-takes opened in let b = takes x in let c = token-takes closed in omega (arith, a, b, c)
+takes (Spells.negative_literal minus number same) = let a = token-takes minus in let b = token-takes number in omega (arith, a, b)
+takes (Spells.minus minus none x same) = let a = token-takes minus in let b = ap length none.0 in let c = takes x in omega (arith, a, b, c)
 takes (Spells.only_primary x) = takes x
 takes (Spells.only_signed x) = takes x
-takes (Spells.multiplied x op y same) = let a = takes x in let b = less-of-one (stands-multiplicative.back _ _ _ op) in let c = takes y in omega (arith, a, b, c)
+takes (Spells.multiplied x op y same) = let a = takes x in let b = one-takes (stands-multiplicative.back _ _ _ op) in let c = takes y in omega (arith, a, b, c)
 takes (Spells.only_product x) = takes x
-takes (Spells.added x op y same) = let a = takes x in let b = less-of-one (stands-additive.back _ _ _ op) in let c = takes y in omega (arith, a, b, c)
+takes (Spells.added x op y same) = let a = takes x in let b = one-takes (stands-additive.back _ _ _ op) in let c = takes y in omega (arith, a, b, c)
 takes (Spells.only_sum x) = takes x
 takes (Spells.in_list x negated word opened xs closed same) =
-    let a = takes x in let b = none-of-said "not" negated in let c = less-of-token word in let d = less-of-token opened in let f = takes xs in let g = less-of-token closed in omega (arith, a, b, c, d, f, g)
+    let a = takes x in let b = said-takes "not" negated in let c = token-takes word in let d = token-takes opened in let f = takes xs in let g = token-takes closed in omega (arith, a, b, c, d, f, g)
 takes (Spells.between x negated word low and high same) =
-    let a = takes x in let b = none-of-said "not" negated in let c = less-of-token word in let d = takes low in let f = less-of-token and in let g = takes high in omega (arith, a, b, c, d, f, g)
+    let a = takes x in let b = said-takes "not" negated in let c = token-takes word in let d = takes low in let f = token-takes and in let g = takes high in omega (arith, a, b, c, d, f, g)
 takes (Spells.only_membership x) = takes x
-takes (Spells.compared x op y same) = let a = takes x in let b = less-of-one (stands-comparison.back _ _ _ op) in let c = takes y in omega (arith, a, b, c)
+takes (Spells.compared x op y same) = let a = takes x in let b = one-takes (stands-comparison.back _ _ _ op) in let c = takes y in omega (arith, a, b, c)
 takes (Spells.only_comparison x) = takes x
-takes (Spells.tested x is negated null same) =
-    let a = takes x in let b = less-of-token is in let c = none-of-said "not" negated in let d = less-of-token null in omega (arith, a, b, c, d)
-takes (Spells.negated word x same) = let a = less-of-token word in let b = takes x in omega (arith, a, b)
+takes (Spells.null_tested x is negated null same) =
+    let a = takes x in let b = token-takes is in let c = said-takes "not" negated in let d = token-takes null in omega (arith, a, b, c, d)
+takes (Spells.negated word x same) = let a = token-takes word in let b = takes x in omega (arith, a, b)
 takes (Spells.only_null_test x) = takes x
 takes (Spells.conjoined xs same) = takes xs
 takes (Spells.disjoined xs same) = takes xs
 takes (Spells.last_negation x same) = takes x
-takes (Spells.next_negation x word xs same) = let a = takes x in let b = less-of-token word in let c = takes xs in omega (arith, a, b, c)
+takes (Spells.next_negation x word xs same) = let a = takes x in let b = token-takes word in let c = takes xs in omega (arith, a, b, c)
 takes (Spells.last_conjunction x same) = takes x
-takes (Spells.next_conjunction x word xs same) = let a = takes x in let b = less-of-token word in let c = takes xs in omega (arith, a, b, c)
+takes (Spells.next_conjunction x word xs same) = let a = takes x in let b = token-takes word in let c = takes xs in omega (arith, a, b, c)
 takes (Spells.last_expression x same) = takes x
-takes (Spells.next_expression x comma xs same) = let a = takes x in let b = less-of-token comma in let c = takes xs in omega (arith, a, b, c)
+takes (Spells.next_expression x comma xs same) = let a = takes x in let b = token-takes comma in let c = takes xs in omega (arith, a, b, c)
 
 -- ---- lists and chains, one more at an end
 
@@ -155,7 +155,7 @@ below-list (suc d) ts xs us few all = all d (omega (arith, few))
 
 line-of : {rule : Rule} {ts us : Tokens} {x : Meaning rule} → Spells rule ts x us → (d : ℕ) → length ts ≤ d → line rule d ts x us
 unfolding expr.primary expr.signed expr.product expr.sum expr.in_list expr.between expr.membership expr.comparison expr.null_test expr.negation expr.conjunction expr.disjunction column qualified
-line-of {us = us} {x = x} (Spells.constant {value = l} spelt same) d few = inr (inl (x, us, inl (l, us, spelt, (same, refl)), (refl, refl)))
+line-of {us = us} {x = x} (Spells.plain_literal {value = l} spelt same) d few = inr (inl (x, us, inl (l, us, spelt, (same, refl)), (refl, refl)))
 line-of {us = us} {x = x} (Spells.param {digits = digits} spelt same) d few = inr (inl (x, us, inr (digits, us, spelt, (same, refl)), (refl, refl)))
 line-of {us = us} (Spells.column_reference (q, k, inl (first, a, front, (u, b, dot, (second, c, back, (pair, end)))), (value, last)) same) d few =
     inr (inr (first, a, front, inr (inl (tt, b, dot, (second, c, back, (same ∙ ap e.Column (value ∙ ap (λ p. record { item = p.0; name = p.1 }) pair), last ∙ end))))))
@@ -164,35 +164,35 @@ line-of {us = us} (Spells.column_reference (q, k, inr (only, a, front, (pair, en
 line-of {us = us} (Spells.call_star {a = a} {b = b} {c = c} {function = f} front opened star closed same) d few =
     inr (inr (f, a, front, inl (tt, b, opened, inl (tt, c, star, (tt, us, closed, (same, refl))))))
 line-of {us = us} (Spells.call {a = a} {b = b} {c = c} {function = f} {x = x} front opened inner closed same) d few =
-    let one_less = less-of-name front in
-    let two_less = less-of-token opened in
+    let one_less = name-takes front in
+    let two_less = token-takes opened in
     inr (inr (f, a, front, inl (tt, b, opened, inr (x, c, below-whole d b x c (omega (arith, one_less, two_less, few)) (line-of inner), (tt, us, closed, (same, refl))))))
 line-of {us = us} (Spells.parenthesized {a = a} {b = b} {x = x} opened inner closed same) d few =
-    let one_less = less-of-token opened in
+    let one_less = token-takes opened in
     inl (tt, a, opened, (x, b, below-whole d a x b (omega (arith, one_less, few)) (line-of inner), (tt, us, closed, (same, refl))))
 line-of {us = us} (Spells.negative_literal {a = a} {digits = digits} minus number same) d few = inl (tt, a, minus, inl (digits, us, number, (same, refl)))
 line-of {us = us} (Spells.minus {a = a} {b = b} {x = x} minus none inner same) d few =
-    let one_less = less-of-token minus in
+    let one_less = token-takes minus in
     let none_less = ap length none.0 in
     inl (tt, a, minus, inr (tt, b, none, (x, us, below-signed d b x us (omega (arith, one_less, none_less, few)) (line-of inner), (same, refl))))
 line-of (Spells.only_primary inner) d few = inr (line-of inner d few)
 line-of {us = us} {x = x} (Spells.only_signed inner) d few = (x, us, line-of inner d few, ([], us, refl, (refl, refl)))
 line-of {ts = ts} {us = us} {x = z} (Spells.multiplied {a = a} {b = b} {x = x} {y = y} {op = op} left operator right same) d few =
     let less = takes left in
-    let one_less = less-of-one (stands-multiplicative.back _ _ _ operator) in
+    let one_less = one-takes (stands-multiplicative.back _ _ _ operator) in
     next-chain multiplicative (expr.signed (within d)) ts a b us x y z op (line-of left d few) operator (line-of right d (omega (arith, less, one_less, few))) same
 line-of {us = us} {x = x} (Spells.only_product inner) d few = (x, us, line-of inner d few, ([], us, refl, (refl, refl)))
 line-of {ts = ts} {us = us} {x = z} (Spells.added {a = a} {b = b} {x = x} {y = y} {op = op} left operator right same) d few =
     let less = takes left in
-    let one_less = less-of-one (stands-additive.back _ _ _ operator) in
+    let one_less = one-takes (stands-additive.back _ _ _ operator) in
     next-chain additive (expr.product (within d)) ts a b us x y z op (line-of left d few) operator (line-of right d (omega (arith, less, one_less, few))) same
 line-of {us = us} {x = x} (Spells.only_sum inner) d few = (x, us, line-of inner d few, inr (inr (inr (refl, refl))))
 line-of {us = us} (Spells.in_list {a = a} {c = c} {d = g} {f = f} {x = x} {xs = xs} left (inl (u, k, not, (same_not, here))) word opened inner closed same) d few =
     let less = takes left in
-    let one_less = less-of-token not in
+    let one_less = token-takes not in
     let no_less = ap length here in
-    let two_less = less-of-token word in
-    let three_less = less-of-token opened in (
+    let two_less = token-takes word in
+    let three_less = token-takes opened in (
       x,
       a,
       line-of left d few,
@@ -221,8 +221,8 @@ line-of {us = us} (Spells.in_list {a = a} {c = c} {d = g} {f = f} {x = x} {xs = 
 line-of {us = us} (Spells.in_list {a = a} {c = c} {d = g} {f = f} {x = x} {xs = xs} left (inr (same_not, here)) word opened inner closed same) d few =
     let less = takes left in
     let no_less = ap length here in
-    let two_less = less-of-token word in
-    let three_less = less-of-token opened in (
+    let two_less = token-takes word in
+    let three_less = token-takes opened in (
       x,
       a,
       line-of left d few,
@@ -245,11 +245,11 @@ line-of {us = us} (Spells.in_list {a = a} {c = c} {d = g} {f = f} {x = x} {xs = 
     )
 line-of {us = us} (Spells.between {a = a} {c = c} {d = g} {f = f} {x = x} {low = low} {high = high} left (inl (u, k, not, (same_not, here))) word first and last same) d few =
     let less = takes left in
-    let one_less = less-of-token not in
+    let one_less = token-takes not in
     let no_less = ap length here in
-    let two_less = less-of-token word in
+    let two_less = token-takes word in
     let low_less = takes first in
-    let and_less = less-of-token and in (
+    let and_less = token-takes and in (
       x,
       a,
       line-of left d few,
@@ -273,9 +273,9 @@ line-of {us = us} (Spells.between {a = a} {c = c} {d = g} {f = f} {x = x} {low =
 line-of {us = us} (Spells.between {a = a} {c = c} {d = g} {f = f} {x = x} {low = low} {high = high} left (inr (same_not, here)) word first and last same) d few =
     let less = takes left in
     let no_less = ap length here in
-    let two_less = less-of-token word in
+    let two_less = token-takes word in
     let low_less = takes first in
-    let and_less = less-of-token and in (
+    let and_less = token-takes and in (
       x,
       a,
       line-of left d few,
@@ -294,13 +294,13 @@ line-of {us = us} (Spells.between {a = a} {c = c} {d = g} {f = f} {x = x} {low =
 line-of {us = us} {x = x} (Spells.only_membership inner) d few = (x, us, line-of inner d few, inr (refl, refl))
 line-of {us = us} (Spells.compared {a = a} {b = b} {x = x} {y = y} {op = op} left operator right same) d few =
     let less = takes left in
-    let one_less = less-of-one (stands-comparison.back _ _ _ operator) in
+    let one_less = one-takes (stands-comparison.back _ _ _ operator) in
     (x, a, line-of left d few, inl (op, b, operator, (y, us, line-of right d (omega (arith, less, one_less, few)), (same, refl))))
 line-of {us = us} {x = x} (Spells.only_comparison inner) d few = (x, us, line-of inner d few, inr (refl, refl))
-line-of {us = us} (Spells.tested {a = a} {b = b} {c = c} {x = x} {negated = negated} left is not null same) d few =
-    (x, a, line-of left d few, inl (tt, b, is, (negated, c, not, (tt, us, null, (same, refl)))))
+line-of {us = us} (Spells.null_tested {a = a} {b = b} {c = c} {x = x} {is_not = is_not} left is not null same) d few =
+    (x, a, line-of left d few, inl (tt, b, is, (is_not, c, not, (tt, us, null, (same, refl)))))
 line-of {us = us} (Spells.negated {a = a} {x = x} word inner same) d few =
-    let one_less = less-of-token word in
+    let one_less = token-takes word in
     inl (tt, a, word, (x, us, below-negated d a x us (omega (arith, one_less, few)) (line-of inner), (same, refl)))
 line-of (Spells.only_null_test inner) d few = inr (line-of inner d few)
 line-of {us = us} (Spells.conjoined {xs = xs} inner same) d few = (xs, us, line-of inner d few, (same, refl))
@@ -308,17 +308,17 @@ line-of {us = us} (Spells.disjoined {xs = xs} inner same) d few = (xs, us, line-
 line-of {ts = ts} {us = us} {x = xs} (Spells.last_negation {x = x} inner same) d few = last-separated (key "and") (expr.negation (within d)) ts us x xs (line-of inner d few) same
 line-of {ts = ts} {us = us} {x = ys} (Spells.next_negation {a = a} {b = b} {x = x} {xs = xs} first word rest same) d few =
     let less = takes first in
-    let one_less = less-of-token word in
+    let one_less = token-takes word in
     next-separated (key "and") (expr.negation (within d)) ts a b us x xs ys (line-of first d few) word (line-of rest d (omega (arith, less, one_less, few))) same
 line-of {ts = ts} {us = us} {x = xs} (Spells.last_conjunction {x = x} inner same) d few = last-separated (key "or") (expr.conjunction (within d)) ts us x xs (line-of inner d few) same
 line-of {ts = ts} {us = us} {x = ys} (Spells.next_conjunction {a = a} {b = b} {x = x} {xs = xs} first word rest same) d few =
     let less = takes first in
-    let one_less = less-of-token word in
+    let one_less = token-takes word in
     next-separated (key "or") (expr.conjunction (within d)) ts a b us x xs ys (line-of first d few) word (line-of rest d (omega (arith, less, one_less, few))) same
 line-of {ts = ts} {us = us} {x = xs} (Spells.last_expression {x = x} inner same) d few = last-separated (mark sign.Comma) (expr.disjunction (within d)) ts us x xs (line-of inner d few) same
 line-of {ts = ts} {us = us} {x = ys} (Spells.next_expression {a = a} {b = b} {x = x} {xs = xs} first comma rest same) d few =
     let less = takes first in
-    let one_less = less-of-token comma in
+    let one_less = token-takes comma in
     next-separated (mark sign.Comma) (expr.disjunction (within d)) ts a b us x xs ys (line-of first d few) comma (line-of rest d (omega (arith, less, one_less, few))) same
 
 pub line-spelt : (ts : Tokens) (x : Expr) (us : Tokens) → expression ts x us → (d : ℕ) → length ts ≤ d → expr.disjunction (within d) ts x us
@@ -327,8 +327,8 @@ line-spelt ts x us spelt d few = line-of spelt d few
 
 -- ---- what a line spells, a case spells
 
-to : {rule : Rule} {ts us vs : Tokens} {x : Meaning rule} → Spells rule ts x us → us ≡ vs → Spells rule ts x vs
-to {rule = rule} {ts = ts} {x = x} spelt same = subst (λ ws. Spells rule ts x ws) same spelt
+spelt-ending : {rule : Rule} {ts us vs : Tokens} {x : Meaning rule} → Spells rule ts x us → us ≡ vs → Spells rule ts x vs
+spelt-ending {rule = rule} {ts = ts} {x = x} spelt same = subst (λ ws. Spells rule ts x ws) same spelt
 
 -- a list, of which each item is spelt
 list-of : (L : Line (Unit {0})) (P : Line Expr) (S : Line (List Expr))
@@ -356,7 +356,7 @@ module _ (nested : Level → Line Expr)
   case-primary : (ts : Tokens) (x : Expr) (us : Tokens) → expr.primary nested ts x us → Spells Rule.primary ts x us
   unfolding expr.primary column qualified
   case-primary ts x us (inl (u, a, opened, (inner, b, spelt, (v, c, closed, (same, end))))) = Spells.parenthesized opened (whole a inner b spelt) (ending closed (sym end)) same
-  case-primary ts x us (inr (inl (y, a, inl (value, b, found, (same, here)), (copy, end)))) = Spells.constant (subst (λ vs. literal ts value vs) (sym (end ∙ here)) found) (copy ∙ same)
+  case-primary ts x us (inr (inl (y, a, inl (value, b, found, (same, here)), (copy, end)))) = Spells.plain_literal (subst (λ vs. literal ts value vs) (sym (end ∙ here)) found) (copy ∙ same)
   case-primary ts x us (inr (inl (y, a, inr (digits, b, found, (same, here)), (copy, end)))) = Spells.param (ending found (sym (end ∙ here))) (copy ∙ same)
   case-primary ts x us (inr (inr (function, a, front, inl (u, b, opened, inl (v, c, star, (w, d, closed, (same, end))))))) = Spells.call_star front opened star (ending closed (sym end)) same
   case-primary ts x us (inr (inr (function, a, front, inl (u, b, opened, inr (inner, c, spelt, (w, d, closed, (same, end))))))) = Spells.call front opened (whole b inner c spelt) (ending closed (sym end)) same
@@ -368,7 +368,7 @@ module _ (nested : Level → Line Expr)
   case-signed : (ts : Tokens) (x : Expr) (us : Tokens) → expr.signed nested ts x us → Spells Rule.signed ts x us
   unfolding expr.signed
   case-signed ts x us (inl (u, a, minus, inl (digits, b, number, (same, end)))) = Spells.negative_literal minus (ending number (sym end)) same
-  case-signed ts x us (inl (u, a, minus, inr (v, b, none, (inner, c, spelt, (same, end))))) = Spells.minus minus none (to (below_sign b inner c spelt) (sym end)) same
+  case-signed ts x us (inl (u, a, minus, inr (v, b, none, (inner, c, spelt, (same, end))))) = Spells.minus minus none (spelt-ending (below_sign b inner c spelt) (sym end)) same
   case-signed ts x us (inr spelt) = Spells.only_primary (case-primary ts x us spelt)
 
   case-product : (ts : Tokens) (x : Expr) (us : Tokens) → expr.product nested ts x us → Spells Rule.product ts x us
@@ -393,7 +393,7 @@ module _ (nested : Level → Line Expr)
   case-tested ts a us operand x is_not b left not (inl (u, c, word, (v, d, opened, (xs, k, inner, (w, m, closed, (same, end)))))) =
       Spells.in_list left not word opened (case-expressions d xs k inner) (ending closed (sym end)) same
   case-tested ts a us operand x is_not b left not (inr (inl (u, c, word, (low, d, first, (v, k, and, (high, m, last, (same, end))))))) =
-      Spells.between left not word (case-sum c low d first) and (to (case-sum k high m last) (sym end)) same
+      Spells.between left not word (case-sum c low d first) and (spelt-ending (case-sum k high m last) (sym end)) same
   case-tested ts a us operand x is_not b left not (inr (inr none)) = absurd none
 
   case-membership : (ts : Tokens) (x : Expr) (us : Tokens) → expr.membership nested ts x us → Spells Rule.membership ts x us
@@ -402,22 +402,22 @@ module _ (nested : Level → Line Expr)
   case-membership ts x us (operand, a, front, inr (inl spelt)) = case-tested ts a us operand x false a (case-sum ts operand a front) (inr (refl, refl)) (inl spelt)
   case-membership ts x us (operand, a, front, inr (inr (inl spelt))) = case-tested ts a us operand x false a (case-sum ts operand a front) (inr (refl, refl)) (inr (inl spelt))
   case-membership ts x us (operand, a, front, inr (inr (inr (same, end)))) =
-      subst (λ y. Spells Rule.membership ts y us) (sym same) (Spells.only_sum (to (case-sum ts operand a front) (sym end)))
+      subst (λ y. Spells Rule.membership ts y us) (sym same) (Spells.only_sum (spelt-ending (case-sum ts operand a front) (sym end)))
 
   case-comparison : (ts : Tokens) (x : Expr) (us : Tokens) → expr.comparison nested ts x us → Spells Rule.comparison ts x us
   unfolding expr.comparison
   case-comparison ts x us (left, a, front, inl (op, b, operator, (right, c, back, (same, end)))) =
-      Spells.compared (case-membership ts left a front) operator (to (case-membership b right c back) (sym end)) same
-  case-comparison ts x us (left, a, front, inr (same, end)) = subst (λ y. Spells Rule.comparison ts y us) (sym same) (Spells.only_membership (to (case-membership ts left a front) (sym end)))
+      Spells.compared (case-membership ts left a front) operator (spelt-ending (case-membership b right c back) (sym end)) same
+  case-comparison ts x us (left, a, front, inr (same, end)) = subst (λ y. Spells Rule.comparison ts y us) (sym same) (Spells.only_membership (spelt-ending (case-membership ts left a front) (sym end)))
 
   case-null_test : (ts : Tokens) (x : Expr) (us : Tokens) → expr.null_test nested ts x us → Spells Rule.null_test ts x us
   unfolding expr.null_test
-  case-null_test ts x us (operand, a, front, inl (u, b, is, (is_not, c, not, (v, d, null, (same, end))))) = Spells.tested (case-comparison ts operand a front) is not (ending null (sym end)) same
-  case-null_test ts x us (operand, a, front, inr (same, end)) = subst (λ y. Spells Rule.null_test ts y us) (sym same) (Spells.only_comparison (to (case-comparison ts operand a front) (sym end)))
+  case-null_test ts x us (operand, a, front, inl (u, b, is, (is_not, c, not, (v, d, null, (same, end))))) = Spells.null_tested (case-comparison ts operand a front) is not (ending null (sym end)) same
+  case-null_test ts x us (operand, a, front, inr (same, end)) = subst (λ y. Spells Rule.null_test ts y us) (sym same) (Spells.only_comparison (spelt-ending (case-comparison ts operand a front) (sym end)))
 
   case-negation : (ts : Tokens) (x : Expr) (us : Tokens) → expr.negation nested ts x us → Spells Rule.negation ts x us
   unfolding expr.negation
-  case-negation ts x us (inl (u, a, word, (inner, b, spelt, (same, end)))) = Spells.negated word (to (negated a inner b spelt) (sym end)) same
+  case-negation ts x us (inl (u, a, word, (inner, b, spelt, (same, end)))) = Spells.negated word (spelt-ending (negated a inner b spelt) (sym end)) same
   case-negation ts x us (inr spelt) = Spells.only_null_test (case-null_test ts x us spelt)
 
   case-conjunction : (ts : Tokens) (x : Expr) (us : Tokens) → expr.conjunction nested ts x us → Spells Rule.conjunction ts x us

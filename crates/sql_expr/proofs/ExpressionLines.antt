@@ -22,18 +22,19 @@ applied operator operand = do op ← operator; right ← operand; gives (op, rig
 abbrev pub chain : Line Arithmetic → Line Expr → Line Expr
 chain operator operand = do first ← operand; others ← many (applied operator operand); gives (grouped first others)
 
+-- behind a name
+abbrev pub columned : Text → Line Expr
+columned first = mark sign.Dot >> (do second ← name; gives (e.Column (record { item = Some first; name = second })))
+    or gives (e.Column (record { item = None; name = first }))
+
 module _ (nested : Level → Line Expr) where
-  -- behind a parenthesis, a function's name with a parenthesis, and a name
+  -- behind a parenthesis, and behind a function's name with one
   abbrev pub parenthesized : Line Expr
   parenthesized = do inner ← nested Whole; mark sign.RightParen; gives inner
 
   abbrev pub called : Text → Line Expr
   called function = mark sign.Star >> (mark sign.RightParen >> gives (e.CallStar function))
       or (do argument ← nested Whole; mark sign.RightParen; gives (e.Call function argument))
-
-  abbrev pub columned : Text → Line Expr
-  columned first = mark sign.Dot >> (do second ← name; gives (e.Column (record { item = Some first; name = second })))
-      or gives (e.Column (record { item = None; name = first }))
 
   abbrev pub named : Line Expr
   named = do first ← name; mark sign.LeftParen >> called first or columned first
@@ -56,7 +57,7 @@ module _ (nested : Level → Line Expr) where
   unfoldable pub between : Expr → Bool → Line Expr
   between operand negated = do low ← sum; key "and"; high ← sum; gives (e.Between operand low high negated)
 
-  -- behind an operand, and behind NOT
+  -- what may stand behind an operand, and behind its NOT; else the other line
   abbrev pub tested : Expr → Bool → Line Expr → Line Expr
   tested operand negated other = key "in" >> in_list operand negated or key "between" >> between operand negated or other
 

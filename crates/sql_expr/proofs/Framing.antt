@@ -80,14 +80,6 @@ frames-or {P = P} {Q = Q} first second = record {
       spelt;
 }
 
-frames-same : {A : Type 0} {P Q : Line A}
-    → ((ts : Tokens) (a : A) (us : Tokens) → P ts a us → Q ts a us) → ((ts : Tokens) (a : A) (us : Tokens) → Q ts a us → P ts a us)
-    → Frames P → Frames Q
-frames-same there back all = record {
-  at = λ ts a us spelt.
-      let f = all.at ts a us (back ts a us spelt) in record { front = f.front; joined = f.joined; anywhere = λ vs. there (f.front ++ vs) a vs (f.anywhere vs) };
-}
-
 -- ---- lists
 
 frames-mapped : {A B : Type 0} {P : Line A} (f : A → B) → Frames P → Frames (lines.◌<$>◌ f P)
@@ -162,7 +154,7 @@ module _ (nested : Level → Line Expr) (below : (level : Level) → Frames (nes
   frames-called function = frames-or (frames-bind (frames-mark sign.Star) (λ u. frames-bind (frames-mark sign.RightParen) (λ v. frames-gives (e.CallStar function))))
       (frames-bind (below Whole) (λ argument. frames-bind (frames-mark sign.RightParen) (λ v. frames-gives (e.Call function argument))))
 
-  frames-columned : (first : Text) → Frames (expr.columned nested first)
+  frames-columned : (first : Text) → Frames (expr.columned first)
   frames-columned first = frames-or (frames-bind (frames-mark sign.Dot) (λ u. frames-bind frames-name (λ second. frames-gives (e.Column (record { item = Some first; name = second })))))
       (frames-gives (e.Column (record { item = None; name = first })))
 

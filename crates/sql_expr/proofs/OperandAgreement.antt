@@ -9,7 +9,7 @@ use Rattle.sql_expr.specs.Expressions.{grouped_from}
 use Rattle.sql_expr.specs.Lines.{Line, gives, many, word as a_word}
 use Rattle.sql_expr.specs.Lines as lines
 use Rattle.sql_expr.specs.Grammar.{operation}
-use Rattle.sql_expr.proofs.ExpressionLines.{grouped, chain}
+use Rattle.sql_expr.proofs.ExpressionLines.{grouped, applied, chain}
 use Rattle.sql_expr.proofs.Heads.{Barred, Head, clear, begins, all_avoid, begins-clear, clear-begins, begins-left, begins-right}
 use Rattle.sql_expr.proofs.Agreement.{Agrees, Stands, tests-word, bar_word, bind_some, same_value, same_rest, same_read, read_then, taken-cases, taken-some, taken-nothing, none-barred, agrees-pure, agrees-bind, agrees-word, agrees-same, agrees-fewer}
 use Rattle.sql_expr.proofs.ListAgreement.{agrees-separated_from}
@@ -47,18 +47,14 @@ module _ (f : List Expr → Expr) (word : Text) (P : Line Expr) where
 -- ---- arithmetic
 
 -- what was read behind a left operand
-pub record Grouped (applied : Line (Arithmetic × Expr)) (left : Expr) (ts : Tokens) (x : Expr) (us : Tokens) : Type 0 where
+pub record Grouped (further : Line (Arithmetic × Expr)) (left : Expr) (ts : Tokens) (x : Expr) (us : Tokens) : Type 0 where
   pub others : List (Arithmetic × Expr)
-  pub back : many applied ts others us
+  pub back : many further ts others us
   pub value : x ≡ grouped left others
 
 module _ {S : Type 0} {n : ℕ} {operator_of : Token → Option Arithmetic} {T : Line Arithmetic} {first : List Head} {bar : Barred} {p : Parser Expr} {P : Line Expr} {k : ℕ} {heads : List Head} {stop : Barred}
     (stands : Stands operator_of T first bar) (each : Agrees S n p P (suc k) heads stop) where
-  -- an operator with its right operand
-  abbrev applied : Line (Arithmetic × Expr)
-  applied = lines.◌>>=◌ T (λ op. lines.◌>>=◌ P (λ right. gives (op, right)))
-
-  grouped-sound : S → (turns : ℕ) (left : Expr) (ts : Tokens) (x : Expr) (us : Tokens) → grouped_from (taken operator_of) p turns left ts ≡ Some (x, us) → Grouped applied left ts x us
+  grouped-sound : S → (turns : ℕ) (left : Expr) (ts : Tokens) (x : Expr) (us : Tokens) → grouped_from (taken operator_of) p turns left ts ≡ Some (x, us) → Grouped (applied T P) left ts x us
   unfolding grouped_from
   grouped-sound s zero left ts x us read = record { others = []; back = same_rest left x ts us read; value = same_value left x ts us read }
   grouped-sound s (suc turns) left ts x us read =
@@ -80,13 +76,13 @@ module _ {S : Type 0} {n : ℕ} {operator_of : Token → Option Arithmetic} {T :
       (taken-cases operator_of ts parts.a parts.middle parts.begun)
 
   module _ (tail : Barred) (apart : all_avoid stop (first ++ Head.others tail ∷ []) ≡ true) (ends : all_avoid bar (Head.others tail ∷ []) ≡ true) where
-    begins-applied : (ts : Tokens) (others : List (Arithmetic × Expr)) (us : Tokens) → many applied ts others us → clear tail us ≡ true → begins (first ++ Head.others tail ∷ []) ts ≡ true
+    begins-applied : (ts : Tokens) (others : List (Arithmetic × Expr)) (us : Tokens) → many (applied T P) ts others us → clear tail us ≡ true → begins (first ++ Head.others tail ∷ []) ts ≡ true
     begins-applied ts [] us back c = begins-right first (Head.others tail ∷ []) ts (clear-begins tail ts (subst (λ vs. clear tail vs ≡ true) back c))
     begins-applied ts (next ∷ more) us back c =
         let op = stands.back ts back.1.0 back.1.1 back.1.2 in
         begins-left first (Head.others tail ∷ []) ts (subst (λ vs. begins first vs ≡ true) (sym op.1.tokens) (stands.shows op.0 back.1.0 op.2))
 
-    takes-applied : (ts : Tokens) (others : List (Arithmetic × Expr)) (us : Tokens) → many applied ts others us → length us ≤ length ts
+    takes-applied : (ts : Tokens) (others : List (Arithmetic × Expr)) (us : Tokens) → many (applied T P) ts others us → length us ≤ length ts
     takes-applied ts [] us back = let same = ap length back in omega (arith, same)
     takes-applied ts (next ∷ more) us back =
         let op = stands.back ts back.1.0 back.1.1 back.1.2 in
@@ -97,7 +93,7 @@ module _ {S : Type 0} {n : ℕ} {operator_of : Token → Option Arithmetic} {T :
         let rest = takes-applied back.0 more us back.2 in omega (arith, one_less, less, same, rest)
 
     grouped-complete : (turns : ℕ) (left : Expr) (ts : Tokens) (others : List (Arithmetic × Expr)) (us : Tokens) → length ts ≤ turns → length ts ≤ n
-        → many applied ts others us → clear tail us ≡ true → grouped_from (taken operator_of) p turns left ts ≡ Some (grouped left others, us)
+        → many (applied T P) ts others us → clear tail us ≡ true → grouped_from (taken operator_of) p turns left ts ≡ Some (grouped left others, us)
     unfolding grouped_from
     grouped-complete zero left ts [] us enough within back c = ap (λ vs. Some (left, vs)) (sym back)
     grouped-complete zero left ts (next ∷ more) us enough within back c =
@@ -112,7 +108,7 @@ module _ {S : Type 0} {n : ℕ} {operator_of : Token → Option Arithmetic} {T :
         let one_less = ap length op.1.tokens in
         let less = each.takes back.1.1 operand.0 operand.1 operand.2 in
         let same = ap length operand.3.1 in
-        let here : many applied operand.1 more us = subst (λ vs. many applied vs more us) operand.3.1 back.2 in
+        let here : many (applied T P) operand.1 more us = subst (λ vs. many (applied T P) vs more us) operand.3.1 back.2 in
         let free = begins-clear stop (first ++ Head.others tail ∷ []) operand.1 apart (begins-applied operand.1 more us here c) in
         let read = each.complete back.1.1 operand.0 operand.1 (omega arith) operand.2 free in
         read_then (λ found. goes_on found (λ o. p >>= (λ right. grouped_from (taken operator_of) p turns (e.Arithmetic o left right))) left) (Some back.1.0) back.1.1
@@ -121,7 +117,7 @@ module _ {S : Type 0} {n : ℕ} {operator_of : Token → Option Arithmetic} {T :
         (grouped-complete turns (e.Arithmetic back.1.0 left operand.0) operand.1 more us (omega arith) (omega arith) here c
         ∙ ap (λ o. Some (grouped (e.Arithmetic o.0 left o.1) more, us)) (sym operand.3.0)))
 
-    agrees-grouped : (left : Expr) → Agrees S n (λ ts. grouped_from (taken operator_of) p (length ts) left ts) (lines.◌>>=◌ (many applied) (λ others. gives (grouped left others))) 0 (first ++ Head.others tail ∷ []) tail
+    agrees-grouped : (left : Expr) → Agrees S n (λ ts. grouped_from (taken operator_of) p (length ts) left ts) (lines.◌>>=◌ (many (applied T P)) (λ others. gives (grouped left others))) 0 (first ++ Head.others tail ∷ []) tail
     agrees-grouped left = record {
       sound = λ s ts x us read. let g = grouped-sound s (length ts) left ts x us read in (g.others, us, g.back, (g.value, refl));
       complete = λ ts x us within spelt c.

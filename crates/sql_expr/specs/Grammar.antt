@@ -1,4 +1,4 @@
--- The grammar of expressions: which tokens spell one. Each case is an alternative of a line.
+-- The grammar of expressions: which tokens spell one. Each case of `Spells` is an alternative of a line.
 use Rattle.std.specs.Prelude.{◌≡◌, ◌⊎◌, ◌<◌, Bool, true, false, List, [], ◌∷◌, length, Option, Some, None}
 use Rattle.sql_tokens.specs.declared.token.Sign.TheVariants as sign
 use Rattle.sql_tree.specs.declared.names.ColumnRef.{ColumnRef}
@@ -63,7 +63,7 @@ Meaning conjunctions = List Expr
 Meaning _ = Expr
 
 pub data Spells : (rule : Rule) → Tokens → Meaning rule → Tokens → Type 0 where
-  constant : {ts us : Tokens} {value : Literal} {x : Expr} → literal ts value us → x ≡ e.Literal value → Spells primary ts x us
+  plain_literal : {ts us : Tokens} {value : Literal} {x : Expr} → literal ts value us → x ≡ e.Literal value → Spells primary ts x us
   param : {ts us : Tokens} {digits : Text} {x : Expr} → parameter ts digits us → x ≡ e.Param digits → Spells primary ts x us
   column_reference : {ts us : Tokens} {c : ColumnRef} {x : Expr} → column ts c us → x ≡ e.Column c → Spells primary ts x us
   call_star : {ts a b c us : Tokens} {function : Text} {x : Expr} → name ts function a → mark sign.LeftParen a tt b → mark sign.Star b tt c → mark sign.RightParen c tt us → x ≡ e.CallStar function → Spells primary ts x us
@@ -79,12 +79,12 @@ pub data Spells : (rule : Rule) → Tokens → Meaning rule → Tokens → Type 
   last_expression : {ts us : Tokens} {x : Expr} {xs : List Expr} → Spells disjunction ts x us → xs ≡ x ∷ [] → Spells expressions ts xs us
   next_expression : {ts a b us : Tokens} {x : Expr} {xs ys : List Expr} → Spells disjunction ts x a → mark sign.Comma a tt b → Spells expressions b xs us → ys ≡ x ∷ xs → Spells expressions ts ys us
   only_sum : {ts us : Tokens} {x : Expr} → Spells sum ts x us → Spells membership ts x us
-  in_list : {ts a b c d f us : Tokens} {x y : Expr} {xs : List Expr} {negated : Bool} → Spells sum ts x a → said "not" a negated b → key "in" b tt c → mark sign.LeftParen c tt d → Spells expressions d xs f → mark sign.RightParen f tt us → y ≡ e.InList x xs negated → Spells membership ts y us
-  between : {ts a b c d f us : Tokens} {x y low high : Expr} {negated : Bool} → Spells sum ts x a → said "not" a negated b → key "between" b tt c → Spells sum c low d → key "and" d tt f → Spells sum f high us → y ≡ e.Between x low high negated → Spells membership ts y us
+  in_list : {ts a b c d f us : Tokens} {x y : Expr} {xs : List Expr} {is_not : Bool} → Spells sum ts x a → said "not" a is_not b → key "in" b tt c → mark sign.LeftParen c tt d → Spells expressions d xs f → mark sign.RightParen f tt us → y ≡ e.InList x xs is_not → Spells membership ts y us
+  between : {ts a b c d f us : Tokens} {x y low high : Expr} {is_not : Bool} → Spells sum ts x a → said "not" a is_not b → key "between" b tt c → Spells sum c low d → key "and" d tt f → Spells sum f high us → y ≡ e.Between x low high is_not → Spells membership ts y us
   only_membership : {ts us : Tokens} {x : Expr} → Spells membership ts x us → Spells comparison ts x us
   compared : {ts a b us : Tokens} {x y z : Expr} {op : Comparison} → Spells membership ts x a → comparison_operator a op b → Spells membership b y us → z ≡ e.Comparison op x y → Spells comparison ts z us
   only_comparison : {ts us : Tokens} {x : Expr} → Spells comparison ts x us → Spells null_test ts x us
-  tested : {ts a b c us : Tokens} {x y : Expr} {negated : Bool} → Spells comparison ts x a → key "is" a tt b → said "not" b negated c → key "null" c tt us → y ≡ e.IsNull x negated → Spells null_test ts y us
+  null_tested : {ts a b c us : Tokens} {x y : Expr} {is_not : Bool} → Spells comparison ts x a → key "is" a tt b → said "not" b is_not c → key "null" c tt us → y ≡ e.IsNull x is_not → Spells null_test ts y us
   negated : {ts a us : Tokens} {x y : Expr} → key "not" ts tt a → Spells negation a x us → y ≡ e.Not x → Spells negation ts y us
   only_null_test : {ts us : Tokens} {x : Expr} → Spells null_test ts x us → Spells negation ts x us
   last_negation : {ts us : Tokens} {x : Expr} {xs : List Expr} → Spells negation ts x us → xs ≡ x ∷ [] → Spells negations ts xs us
@@ -94,7 +94,6 @@ pub data Spells : (rule : Rule) → Tokens → Meaning rule → Tokens → Type 
   next_conjunction : {ts a b us : Tokens} {x : Expr} {xs ys : List Expr} → Spells conjunction ts x a → key "or" a tt b → Spells conjunctions b xs us → ys ≡ x ∷ xs → Spells conjunctions ts ys us
   disjoined : {ts us : Tokens} {x : Expr} {xs : List Expr} → Spells conjunctions ts xs us → x ≡ operation e.Or xs → Spells disjunction ts x us
 
--- an expression
 unfoldable pub expression : Line Expr
 expression ts x us = Spells disjunction ts x us
 

@@ -10,7 +10,7 @@ use Rattle.sql_reader_query.specs.declared.changes.Change.TheVariants.{Update, D
 use Rattle.sql_reader_query.specs.declared.changes.InsertTarget.{InsertTarget}
 use Rattle.sql_expr.specs.Reading.{Text, Tokens, ◌>>=◌, ◌>>◌, pure, expect_word}
 use Rattle.sql_expr.specs.Names.{is_reserved}
-use Rattle.sql_expr.specs.Lines.{Line, gives, nowhere, word as a_word, mark, maybe, any, list}
+use Rattle.sql_expr.specs.Lines.{Line, gives, nowhere, word as a_word, any, list}
 use Rattle.sql_expr.specs.Lines as lines
 use Rattle.sql_reader_query.specs.Changes as spec
 use Rattle.sql_reader_query.specs.Lists as spec_lists
@@ -97,7 +97,7 @@ changed-there ts c us (inr (inl (u, behind_delete, delete, (v, behind_from, from
     inr (u, behind_delete, delete, (v, behind_from, from, (table, last, named, (ap spec.statement_of value, end))))
 changed-there ts c us (inr (inr none)) = absurd none
 
-pub changed-back : (ts : Tokens) (f : grammar.Change) (us : Tokens) → grammar.changed ts f us → (c : Change) × (f ≡ spec.statement_of c) × changed_line ts c us
+pub changed-back : (ts : Tokens) (f : grammar.Changed) (us : Tokens) → grammar.changed ts f us → (c : Change) × (f ≡ spec.statement_of c) × changed_line ts c us
 unfolding grammar.changed grammar.updated grammar.deleted
 changed-back ts f us (inl (u, behind_update, update, (table, behind_table, named, (v, behind_set, set, (assignments, last, listed, (value, end)))))) =
     (Update table assignments, value, inl (u, behind_update, update, (table, behind_table, named, (v, behind_set, set, (assignments, last, listed, (refl, end))))))

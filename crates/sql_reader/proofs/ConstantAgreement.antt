@@ -10,7 +10,7 @@ use Rattle.sql_tree.specs.declared.expr.Literal.TheVariants as literal
 use Rattle.sql_tree.specs.declared.expr.Numeral.{Numeral}
 use Rattle.sql_expr.specs.Reading.{Text, Tokens, Parser, and_then, ◌>>=◌, ◌>>◌, ◌<$>◌, pure, taken, taken_first, required, behind, expect_sign, sees_sign, same_sign}
 use Rattle.sql_expr.specs.Literals.{literal_of, literal_of_word, digits_of, numeral}
-use Rattle.sql_expr.specs.Lines.{Line, gives, mark}
+use Rattle.sql_expr.specs.Lines.{Line, gives}
 use Rattle.sql_expr.specs.Grammar.{literal as literal_line}
 use Rattle.sql_expr.specs.Lines as lines
 use Rattle.sql_reader_catalog.specs.Constants as spec

@@ -16,10 +16,11 @@ use Rattle.sql_tree.specs.declared.select.OutputItem.{OutputItem}
 use Rattle.sql_tree.specs.declared.select.OutputItem.TheVariants as output
 use Rattle.sql_tree.specs.declared.statement.Statement.TheVariants as statement
 use Rattle.sql_expr.specs.Names.{is_reserved, name_of}
-use Rattle.sql_expr.specs.Lines.{Text, Tokens, TakesToken, Line, name, key, mark, any, list, before}
+use Rattle.sql_expr.specs.Lines.{Text, Tokens, TakesToken, name, key, any, list, before}
 use Rattle.sql_expr.specs.Lines as lines
 use Rattle.sql_expr.specs.Grammar.{Rule, Spells, expression, qualified, column}
 use Rattle.sql_expr.proofs.TokenKinds.{stands-name}
+use Rattle.sql_expr.proofs.ExpressionCases.{name-takes}
 use Rattle.sql_reader.specs.Examples.{number, column as column_named, relation, item, selected, computed, altered, plain}
 use Rattle.sql_reader.specs.Grammar.{SpellsAll}
 use Rattle.sql_reader.specs.Grammar as grammar
@@ -45,7 +46,7 @@ unfolding qualified column
 a-column n us free = Spells.column_reference ((None, codes n), us, inr (codes n, us, named n us free, (refl, refl)), (refl, refl)) refl
 
 a-number : (digits : Text) (us : Tokens) → Spells Rule.primary (token.Number digits ∷ us) (number false digits) us
-a-number digits us = Spells.constant (inl (digits, us, next, (refl, refl))) refl
+a-number digits us = Spells.plain_literal (inl (digits, us, next, (refl, refl))) refl
 
 -- ---- an operand in a looser place
 
@@ -65,7 +66,7 @@ conjunction-of spelt = Spells.disjoined (Spells.last_conjunction spelt refl) ref
 expression-of : {ts us : Tokens} {x : Expr} → Spells Rule.negation ts x us → expression ts x us
 expression-of spelt = conjunction-of (Spells.conjoined (Spells.last_negation spelt refl) refl)
 
--- ---- a SELECT of one output with nothing behind FROM
+-- ---- a SELECT of one output that ends with its FROM
 
 a-grouping : grammar.grouping [] (record { keys = []; having = None }) []
 unfolding grammar.grouping
@@ -88,6 +89,8 @@ a-select ts us given from front chains =
 a-computed : (ts : Tokens) (x : Expr) → expression ts x [] → SpellsAll (w "select" ∷ ts) (computed x)
 unfolding grammar.output grammar.alias
 a-computed ts x spelt = a-select ts [] (output.Expr x None) [] (inr (inr (x, [], spelt, (None, [], inr (refl, refl), (refl, refl))))) (inr (refl, refl))
+
+-- ---- the tokens of each text (`in_..`), and the derivation
 
 -- SELECT - 5
 abbrev pub in_negative_literal : Tokens
@@ -133,14 +136,7 @@ chain_of_joins = a-select _ _ output.All _ (inl (tt, _, next, (refl, refl)))
     inner : grammar.join (w "join" ∷ w "b" ∷ w "on" ∷ w "c" ∷ w "cross" ∷ w "join" ∷ w "d" ∷ []) (join.Inner (item (codes "b")) (column_named (codes "c"))) (w "cross" ∷ w "join" ∷ w "d" ∷ [])
     inner = inl (false, _, inr (refl, refl), (tt, _, next, (_, _, an-item "b" _ refl, (tt, _, next, (_, _, expression-of (negation-of (Spells.only_membership (membership-of (a-column "c" _ refl)))), (refl, refl))))))
 
--- ---- a word that is a keyword in one place and a name in another: what follows doesn't begin as behind the keyword
-
--- as many names need as many tokens
-name-takes : {ts us : Tokens} {n : Text} → name ts n us → length ts ≡ 1 + length us
-name-takes spelt = let one = stands-name.back _ _ _ spelt in let same = ap length one.1.tokens in omega (arith, same)
-
-no-name : {n : Text} {us : Tokens} → ¬ name [] n us
-no-name spelt = let few = name-takes spelt in omega (arith, few)
+-- ---- a word that may be keyword and name: what follows tells which it is
 
 a-column_def : (n t : String) → name_of (w n) ≡ Some (codes n) → name_of (w t) ≡ Some (codes t)
     → grammar.column_def false (w n ∷ w t ∷ []) (record { name = codes n; type_name = codes t; nullability = nullability.Unsaid; default = None; keys = [] }) []
@@ -159,10 +155,10 @@ in_column_as_name = w "alter" ∷ w "table" ∷ w "t" ∷ w "add" ∷ w "column"
 
 pub column_as_name : SpellsAll in_column_as_name (altered (codes "t") (plain (codes "column")))
 unfolding is_reserved
-column_as_name = an-addition _ _ "column" (inr (refl, λ n us spelt. two-names n us spelt)) (a-column_def "column" "int" refl refl)
+column_as_name = an-addition _ _ "column" (inr (refl, λ n us spelt. no-two-names n us spelt)) (a-column_def "column" "int" refl refl)
   where
-    two-names : (n : Text) (us : Tokens) → ¬ (lines.◌>>◌ (key "column") (lines.◌>>◌ name name)) (w "column" ∷ w "int" ∷ []) n us
-    two-names n us (u, a, word, (m, b, first, second)) =
+    no-two-names : (n : Text) (us : Tokens) → ¬ (lines.◌>>◌ (key "column") (lines.◌>>◌ name name)) (w "column" ∷ w "int" ∷ []) n us
+    no-two-names n us (u, a, word, (m, b, first, second)) =
         let one_less = ap length word.tokens in
         let two_less = name-takes first in
         let three_less = name-takes second in
@@ -182,10 +178,10 @@ in_savepoint_as_name = w "release" ∷ w "savepoint" ∷ []
 
 pub savepoint_as_name : SpellsAll in_savepoint_as_name (command.Release (codes "savepoint"))
 unfolding grammar.command is_reserved
-savepoint_as_name = inr (inr (inr (inl (inr (inr (inr (inr (inr (inr (inr (tt, _, next, (codes "savepoint", [], (tt, _, inr (refl, λ n us spelt. a-name n us spelt), named "savepoint" [] refl), (refl, refl)))))))))))))
+savepoint_as_name = inr (inr (inr (inl (inr (inr (inr (inr (inr (inr (inr (tt, _, next, (codes "savepoint", [], (tt, _, inr (refl, λ n us spelt. no-name n us spelt), named "savepoint" [] refl), (refl, refl)))))))))))))
   where
-    a-name : (n : Text) (us : Tokens) → ¬ (lines.◌>>◌ (key "savepoint") name) (w "savepoint" ∷ []) n us
-    a-name n us (u, a, word, spelt) =
+    no-name : (n : Text) (us : Tokens) → ¬ (lines.◌>>◌ (key "savepoint") name) (w "savepoint" ∷ []) n us
+    no-name n us (u, a, word, spelt) =
         let one_less = ap length word.tokens in
         let two_less = name-takes spelt in
         omega (arith, one_less, two_less)
@@ -234,14 +230,14 @@ in_prepare_as_name = w "deallocate" ∷ w "prepare" ∷ []
 
 pub prepare_as_name : SpellsAll in_prepare_as_name (command.Deallocate (codes "prepare"))
 unfolding grammar.command grammar.deallocate is_reserved
-prepare_as_name = inr (inl (inr (inr (inr (inl (tt, _, next, (tt, _, inr (refl, λ c us spelt. a-target c us spelt), inr (codes "prepare", [], named "prepare" [] refl, (refl, refl)))))))))
+prepare_as_name = inr (inl (inr (inr (inr (inl (tt, _, next, (tt, _, inr (refl, λ c us spelt. no-target c us spelt), inr (codes "prepare", [], named "prepare" [] refl, (refl, refl)))))))))
   where
-    a-target : (c : _) (us : Tokens) → ¬ (lines.◌>>◌ (key "prepare") grammar.deallocated) (w "prepare" ∷ []) c us
-    a-target c us (u, a, word, inl (v, b, all, end)) =
+    no-target : (c : _) (us : Tokens) → ¬ (lines.◌>>◌ (key "prepare") grammar.deallocated) (w "prepare" ∷ []) c us
+    no-target c us (u, a, word, inl (v, b, all, end)) =
         let one_less = ap length word.tokens in
         let two_less = ap length all.tokens in
         omega (arith, one_less, two_less)
-    a-target c us (u, a, word, inr (n, b, spelt, end)) =
+    no-target c us (u, a, word, inr (n, b, spelt, end)) =
         let one_less = ap length word.tokens in
         let two_less = name-takes spelt in
         omega (arith, one_less, two_less)

@@ -1,4 +1,4 @@
--- The examples: ten texts by their derivations, and five of which reading gives none.
+-- The examples: ten texts by their derivations, and five that are read as no command.
 use Rattle.std.proofs.Common.{◌≡◌, List, [], ◌∷◌, true, false, Option, Some, None, codes, refl, subst, sym, ◌∙◌}
 use Rattle.std.specs.Prelude.{Result, Ok, Err}
 use Rattle.q_base.specs.declared.errors.SqlError.{SqlError}

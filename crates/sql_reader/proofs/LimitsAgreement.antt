@@ -11,7 +11,7 @@ use Rattle.sql_tree.specs.declared.select.RowCount.TheVariants.{Number, Param, N
 use Rattle.sql_expr.specs.Reading.{Text, Tokens, Parser, ◌>>=◌, ◌<$>◌, pure, taken, required, behind, eat_word, sees_word}
 use Rattle.sql_expr.specs.Literals as spec_literals
 use Rattle.sql_expr.specs.Literals.{digits_of, param_of}
-use Rattle.sql_expr.specs.Lines.{Line, gives, word as a_word, mark, number, parameter, maybe, TakesToken}
+use Rattle.sql_expr.specs.Lines.{Line, gives, word as a_word, mark, number, parameter, TakesToken}
 use Rattle.sql_expr.specs.Lines as lines
 use Rattle.sql_reader_query.specs.Limits as spec
 use Rattle.sql_reader.specs.Grammar as grammar

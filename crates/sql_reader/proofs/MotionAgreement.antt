@@ -19,7 +19,7 @@ use Rattle.sql_expr.specs.Names.{is_reserved}
 use Rattle.sql_reader_session.specs.declared.motions.Direction.{Direction}
 use Rattle.sql_reader_session.specs.declared.motions.Direction.TheVariants as direction
 use Rattle.sql_reader_session.specs.Cursors as cursors
-use Rattle.sql_reader_session.specs.Motions.{direction_of, direction_of_word}
+use Rattle.sql_reader_session.specs.Motions.{direction_of}
 use Rattle.sql_reader_session.specs.Motions as spec
 use Rattle.sql_reader_session.specs.Numbers.{decimal_after, number_of, begins_integer, signed}
 use Rattle.sql_reader_session.specs.Numbers as numbers

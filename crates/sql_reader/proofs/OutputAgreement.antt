@@ -17,7 +17,7 @@ use Rattle.sql_expr.specs.Expressions as spec_expression
 use Rattle.sql_expr.specs.Literals.{digits_of}
 use Rattle.sql_expr.specs.Operators.{additive_of, multiplicative_of}
 use Rattle.sql_expr.specs.Names.{is_reserved, name_of, sees_name}
-use Rattle.sql_expr.specs.Lines.{Line, gives, word as a_word, mark, maybe, said}
+use Rattle.sql_expr.specs.Lines.{Line, gives, word as a_word, mark, maybe}
 use Rattle.sql_expr.specs.Lines as lines
 use Rattle.sql_expr.specs.Grammar as expression
 use Rattle.sql_reader_query.specs.Lists as spec_lists

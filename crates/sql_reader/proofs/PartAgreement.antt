@@ -3,7 +3,7 @@ use Rattle.std.proofs.Common.{◌≡◌, ◌⊎◌, inl, inr, ℕ, ◌+◌, ◌�
 use Rattle.sql_tree.specs.declared.catalog.KeyKind.TheVariants as kind
 use Rattle.sql_tree.specs.declared.catalog.Nullability.TheVariants as nullability
 use Rattle.sql_expr.specs.Reading.{Tokens, Parser, pure, sees_word}
-use Rattle.sql_expr.specs.Lines.{Line, nowhere, gives, word as a_word, many}
+use Rattle.sql_expr.specs.Lines.{Line, gives, word as a_word}
 use Rattle.sql_expr.specs.Lines as lines
 use Rattle.sql_reader_catalog.specs.declared.columns.Part.{Part}
 use Rattle.sql_reader_catalog.specs.declared.columns.Part.TheVariants as variant

@@ -11,9 +11,8 @@ use Rattle.sql_expr.specs.Names.{is_reserved, sees_name}
 use Rattle.sql_expr.specs.Names as names
 use Rattle.sql_reader_query.specs.Names.{optional_names}
 use Rattle.sql_reader_session.specs.Prepared as spec
-use Rattle.sql_reader.specs.Grammar.{statement}
 use Rattle.sql_reader.specs.Grammar as grammar
-use Rattle.sql_reader.specs.Grammar.{deallocated as target}
+use Rattle.sql_reader.specs.Grammar.{statement, deallocated as target}
 use Rattle.sql_expr.proofs.Heads.{Barred, Head, and-left, and-right}
 use Rattle.sql_expr.proofs.Agreement.{Agrees, nothing, bar_sign, word-seen, sees-word, tests-word, agrees-pure, agrees-refuse, agrees-bind, agrees-same, agrees-wider, agrees-test, agrees-word, agrees-sign, agrees-expect_word, agrees-expect_sign}
 use Rattle.sql_expr.proofs.ListAgreement.{agrees-list}

@@ -8,7 +8,7 @@ use Rattle.sql_tree.specs.declared.catalog.SchemaCommand.TheVariants as schema
 use Rattle.sql_tree.specs.declared.command.Command.{Command}
 use Rattle.sql_tree.specs.declared.command.Command.TheVariants as command
 use Rattle.sql_expr.specs.Reading.{Tokens, ◌<$>◌, pure}
-use Rattle.sql_expr.specs.Lines.{Line, nowhere, gives, word as a_word, said}
+use Rattle.sql_expr.specs.Lines.{Line, nowhere, gives, word as a_word}
 use Rattle.sql_expr.specs.Lines as lines
 use Rattle.sql_expr.specs.Names.{is_reserved, sees_name}
 use Rattle.sql_reader_query.specs.Names.{relation}

@@ -16,7 +16,7 @@ use Rattle.sql_expr.specs.Lines as lines
 use Rattle.sql_expr.specs.Names.{is_reserved}
 use Rattle.sql_expr.specs.Names as names
 use Rattle.sql_reader_session.specs.Keywords.{eat_before_name}
-use Rattle.sql_reader_session.specs.Settings.{text_of, is_setting_word}
+use Rattle.sql_reader_session.specs.Settings.{text_of}
 use Rattle.sql_reader_session.specs.Settings as spec
 use Rattle.sql_reader.specs.Grammar as grammar
 use Rattle.sql_expr.proofs.Heads.{Barred, Head, bars, is}

@@ -8,7 +8,7 @@ use Rattle.sql_tree.specs.declared.statement.Statement.TheVariants.{Select, Inse
 use Rattle.sql_reader_query.specs.declared.changes.Change.{Change}
 use Rattle.sql_expr.specs.Reading.{Tokens, Outcome, Parser, and_then, ◌>>=◌, ◌<$>◌, pure, eat_word, sees_word}
 use Rattle.sql_expr.specs.Names.{is_reserved}
-use Rattle.sql_expr.specs.Lines.{Line, gives, word as a_word, maybe, unless}
+use Rattle.sql_expr.specs.Lines.{Line, word as a_word, unless}
 use Rattle.sql_expr.specs.Lines as lines
 use Rattle.sql_reader_query.specs.Changes as spec_changes
 use Rattle.sql_reader_query.specs.Query as spec_query
@@ -102,7 +102,7 @@ statement-back ts s us (inr (f, middle, changed, rest)) =
 -- ---- statement_command
 
 -- behind a change
-abbrev changing_of : grammar.Change → Line Command
+abbrev changing_of : grammar.Changed → Line Command
 changing_of f = lines.◌or◌ (lines.◌<$>◌ command.Positioned (grammar.positioned f)) (lines.◌>>◌ (unless grammar.current_of) (lines.◌<$>◌ command.Statement (grammar.searched f)))
 
 abbrev changing_line : Change → Line Command

@@ -117,28 +117,28 @@ unfoldable pub assignment : Line Assignment
 assignment = do column ← name; mark sign.Equal; new ← value; gives (record { column = column; value = new })
 
 -- what an UPDATE or DELETE is, by its condition and by what it returns
-abbrev pub Change : Type 0
-Change = Option Expr → List OutputItem → Statement
+abbrev pub Changed : Type 0
+Changed = Option Expr → List OutputItem → Statement
 
-unfoldable pub updated : Line Change
+unfoldable pub updated : Line Changed
 updated = do table ← relation; key "set"; all ← list assignment; gives (λ filter given. statement_of.Update (record { table = table; assignments = all; condition = filter; returning = given }))
 
-unfoldable pub deleted : Line Change
+unfoldable pub deleted : Line Changed
 deleted = do key "from"; table ← relation; gives (λ filter given. statement_of.Delete (record { table = table; condition = filter; returning = given }))
 
-unfoldable pub changed : Line Change
+unfoldable pub changed : Line Changed
 changed = key "update" >> updated or key "delete" >> deleted
 
 -- behind a change
-unfoldable pub searched : Change → Line Statement
-searched change = do filter ← condition; given ← returning; gives (change filter given)
+unfoldable pub searched : Changed → Line Statement
+searched made = do filter ← condition; given ← returning; gives (made filter given)
 
 abbrev pub current_of : Line (Unit {0})
 current_of = key "where" >> key "current" >> key "of"
 
 -- behind a change, of the row at which a cursor stands
-unfoldable pub positioned : Change → Line PositionedTree
-positioned change = do current_of; cursor ← name; given ← returning; gives (record { statement = change None given; cursor = cursor })
+unfoldable pub positioned : Changed → Line PositionedTree
+positioned made = do current_of; cursor ← name; given ← returning; gives (record { statement = made None given; cursor = cursor })
 
 abbrev pub plain : Line Statement
 plain = statement_of.Select <$> select or statement_of.Insert <$> (key "insert" >> insertion)
@@ -149,7 +149,7 @@ statement = plain or (changed >>= searched)
 -- a change is positioned exactly where WHERE CURRENT OF comes next
 unfoldable pub statement_command : Line Command
 statement_command = command_of.Statement <$> plain
-    or (do change ← changed; command_of.Positioned <$> positioned change or unless current_of >> command_of.Statement <$> searched change)
+    or (do made ← changed; command_of.Positioned <$> positioned made or unless current_of >> command_of.Statement <$> searched made)
 
 -- ---- prepared statements
 
@@ -321,7 +321,7 @@ default_of (_ ∷ parts) = default_of parts
 
 abbrev pub keys_of : List Part → List KeyKind
 keys_of [] = []
-keys_of (Part.keyed key ∷ parts) = key ∷ keys_of parts
+keys_of (Part.keyed kind ∷ parts) = kind ∷ keys_of parts
 keys_of (_ ∷ parts) = keys_of parts
 
 unfoldable pub column_def : Bool → Line ColumnDef
@@ -335,7 +335,7 @@ element = key "primary" >> (key "key" >> constraint Primary) or key "unique" >> 
     or Column <$> column_def true
 
 unfoldable pub table : Line TableTree
-table = do name ← relation; mark sign.LeftParen; elements ← list element; mark sign.RightParen; gives (record { name = name; elements = elements })
+table = do made ← relation; mark sign.LeftParen; elements ← list element; mark sign.RightParen; gives (record { name = made; elements = elements })
 
 abbrev pub commit_action : Line OnCommit
 commit_action = key "preserve" >> (key "rows" >> gives Preserve) or key "delete" >> (key "rows" >> gives Delete) or key "drop" >> gives Drop
@@ -437,7 +437,7 @@ backslash letters ts u us = TakesToken (Backslash (codes letters)) ts us
 
 -- the name is that of a portal, here and below
 unfoldable pub bind_tree : Line BindTree
-bind_tree = do portal ← name; statement ← execute_tree; gives (record { portal = portal; execute = statement })
+bind_tree = do portal ← name; execute ← execute_tree; gives (record { portal = portal; execute = execute })
 
 unfoldable pub run_tree : Line RunTree
 run_tree = do portal ← name; rows ← unsigned_integer; gives (record { portal = portal; count = rows })
