@@ -13,8 +13,9 @@ use Rattle.sql_tokens.specs.declared.token.Token.TheVariants as token
 use Rattle.sql_tokens.specs.declared.token.Sign.{Sign}
 use Rattle.sql_tokens.specs.contracts.token.Sign.{the_type}
 use Rattle.sql_expr.specs.Reading.{Text, Tokens, Outcome, Parser, and_then, ◌>>=◌, pure, refuse, taken, taken_first, required, behind, eat_word, eat_sign, expect_word, expect_sign, sees_word, sees_sign, same_sign}
-use Rattle.sql_expr.specs.Lines.{Line, TakesToken, nowhere, gives, unless, word as a_word, mark}
+use Rattle.sql_expr.specs.Lines.{Line, TakesToken, gives, unless, word as a_word, mark}
 use Rattle.sql_expr.specs.Lines as lines
+use Rattle.sql_expr.proofs.LineWords.{nowhere}
 use Rattle.sql_expr.proofs.Heads.{Barred, Head, bars, clear, is, begins, all_avoid, begins-clear, clear-begins, begins-left, begins-right, not-true}
 pub use Rattle.sql_expr.proofs.Leaving.{Parts, bind_some, same_rest}
 

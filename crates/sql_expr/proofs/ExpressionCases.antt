@@ -8,9 +8,10 @@ use Rattle.sql_tree.specs.declared.expr.{Arithmetic.Arithmetic, Expr.Expr}
 use Rattle.sql_tree.specs.declared.expr.Expr.TheVariants as e
 use Prim.Native.String.{String}
 use Rattle.sql_expr.specs.declared.grammar.Level.{Level, TheVariants.Whole, TheVariants.Negated, TheVariants.Signed}
-use Rattle.sql_expr.specs.Lines.{Text, Tokens, TakesToken, Line, key, mark, name, said, many, separated, list}
+use Rattle.sql_expr.specs.Lines.{Text, Tokens, TakesToken, Line, key, mark, name, said, many}
 use Rattle.sql_expr.specs.Lines as lines
 use Rattle.sql_expr.specs.Grammar.{literal, qualified, column, additive, multiplicative, Rule, Meaning, Spells, expression}
+use Rattle.sql_expr.proofs.LineWords.{separated, list, last-separated, next-separated, list-of}
 use Rattle.sql_expr.proofs.Agreement.{one, beginning, ending}
 use Rattle.sql_expr.proofs.TokenKinds.{stands-name, stands-comparison, stands-additive, stands-multiplicative, literal-back}
 use Rattle.sql_expr.proofs.ExpressionLines.{grouped, applied, chain, within}
@@ -83,14 +84,7 @@ takes (Spells.next_conjunction x word xs same) = let a = takes x in let b = toke
 takes (Spells.last_expression x same) = takes x
 takes (Spells.next_expression x comma xs same) = let a = takes x in let b = token-takes comma in let c = takes xs in omega (arith, a, b, c)
 
--- ---- lists and chains, one more at an end
-
-last-separated : {A : Type 0} (L : Line (Unit {0})) (P : Line A) (ts us : Tokens) (x : A) (xs : List A) → P ts x us → xs ≡ x ∷ [] → separated L P ts xs us
-last-separated L P ts us x xs spelt same = (x, us, spelt, ([], us, refl, (same, refl)))
-
-next-separated : {A : Type 0} (L : Line (Unit {0})) (P : Line A) (ts a b us : Tokens) (x : A) (xs ys : List A) → P ts x a → L a tt b → separated L P b xs us → ys ≡ x ∷ xs → separated L P ts ys us
-next-separated L P ts a b us x xs ys spelt sep (first, c, front, (others, d, more, (same, end))) value =
-    (x, a, spelt, (first ∷ others, d, (c, (tt, b, sep, front), more), (value ∙ ap (λ l. x ∷ l) same, end)))
+-- ---- a chain, one more at its end
 
 many-more : {A : Type 0} (P : Line A) (ts : Tokens) (xs : List A) (a us : Tokens) (x : A) → many P ts xs a → P a x us → many P ts (xs ++ x ∷ []) us
 many-more P ts [] a us x none last = (us, subst (λ vs. P vs x us) none last, refl)
@@ -329,15 +323,6 @@ line-spelt ts x us spelt d few = line-of spelt d few
 
 spelt-ending : {rule : Rule} {ts us vs : Tokens} {x : Meaning rule} → Spells rule ts x us → us ≡ vs → Spells rule ts x vs
 spelt-ending {rule = rule} {ts = ts} {x = x} spelt same = subst (λ ws. Spells rule ts x ws) same spelt
-
--- a list, of which each item is spelt
-list-of : (L : Line (Unit {0})) (P : Line Expr) (S : Line (List Expr))
-    → ((ts us : Tokens) (x : Expr) (xs : List Expr) → P ts x us → xs ≡ x ∷ [] → S ts xs us)
-    → ((ts a b us : Tokens) (x : Expr) (xs ys : List Expr) → P ts x a → L a tt b → S b xs us → ys ≡ x ∷ xs → S ts ys us)
-    → (ts a b us : Tokens) (x : Expr) (others xs : List Expr) → P ts x a → many (lines.◌>>◌ L P) a others b → xs ≡ x ∷ others → us ≡ b → S ts xs us
-list-of L P S last next ts a b us x [] xs front more same end = last ts us x xs (subst (λ vs. P ts x vs) (sym (end ∙ more)) front) same
-list-of L P S last next ts a b us x (y ∷ others) xs front (c, (u, k, sep, item), rest) same end =
-    next ts a k us x (y ∷ others) xs front sep (list-of L P S last next k c b us y others (y ∷ others) item rest refl end) same
 
 -- operators with their operands, grouped to the left
 chain-of : (O : Line Arithmetic) (P S : Line Expr)

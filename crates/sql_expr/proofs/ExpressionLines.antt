@@ -5,8 +5,9 @@ use Rattle.sql_tree.specs.declared.expr.{Arithmetic.Arithmetic, Expr.Expr}
 use Rattle.sql_tree.specs.declared.expr.Expr.TheVariants as e
 use Rattle.sql_expr.specs.declared.grammar.Level.{Level, TheVariants.Whole, TheVariants.Negated, TheVariants.Signed}
 use Rattle.sql_expr.specs.Literals.{negative_number}
-use Rattle.sql_expr.specs.Lines.{Text, Line, ◌>>=◌, ◌>>◌, ◌<$>◌, ◌or◌, key, mark, name, number, nowhere, gives, unless, said, many, separated, list}
+use Rattle.sql_expr.specs.Lines.{Text, Line, ◌>>=◌, ◌>>◌, ◌<$>◌, ◌or◌, key, mark, name, number, gives, unless, said, many}
 use Rattle.sql_expr.specs.Grammar.{comparison_operator, additive, multiplicative, operation}
+use Rattle.sql_expr.proofs.LineWords.{nowhere, separated, list}
 use Rattle.sql_expr.proofs.TokenKinds.{constant}
 
 -- ---- arithmetic: operators with their right operands, grouped to the left

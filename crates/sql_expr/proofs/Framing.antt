@@ -14,10 +14,12 @@ use Rattle.sql_expr.specs.declared.grammar.Level.{Level}
 use Rattle.sql_expr.specs.declared.grammar.Level.TheVariants.{Whole, Negated, Signed}
 use Rattle.sql_expr.specs.Reading.{Text, Tokens}
 use Prim.Native.String.{String}
-use Rattle.sql_expr.specs.Lines.{Line, nowhere, gives, unless, word as a_word, mark, many, name, number, string, parameter}
+use Rattle.sql_expr.specs.Lines.{Line, gives, unless, word as a_word, mark, many, name, number, string, parameter}
 use Rattle.sql_expr.specs.Lines as lines
 use Rattle.sql_expr.specs.Literals.{negative_number}
 use Rattle.sql_expr.specs.Grammar as grammar
+use Rattle.sql_expr.proofs.LineWords.{nowhere}
+use Rattle.sql_expr.proofs.LineWords as words
 use Rattle.sql_expr.proofs.TokenKinds.{constant}
 use Rattle.sql_expr.proofs.ExpressionLines as expr
 use Rattle.sql_expr.proofs.ExpressionCases.{spelt-by-line, line-spelt}
@@ -99,7 +101,7 @@ many-framed {P = P} each ts (a ∷ more) us (middle, first, rest) =
 frames-many : {A : Type 0} {P : Line A} → Frames P → Frames (many P)
 frames-many each = record { at = many-framed each }
 
-frames-separated : {A : Type 0} {L : Line (Unit {0})} {P : Line A} → Frames L → Frames P → Frames (lines.separated L P)
+frames-separated : {A : Type 0} {L : Line (Unit {0})} {P : Line A} → Frames L → Frames P → Frames (words.separated L P)
 frames-separated separator each = frames-bind each (λ first. frames-bind (frames-many (frames-bind separator (λ u. each))) (λ others. frames-gives (first ∷ others)))
 
 frames-said : (keyword : String) → Frames (lines.said keyword)

@@ -9,6 +9,7 @@ pub mod NameLemmas
 pub mod OperandAgreement
 pub mod Turns
 pub mod Leaving
+pub mod LineWords
 pub mod ListAgreement
 pub mod TokenKinds
 pub mod Longest

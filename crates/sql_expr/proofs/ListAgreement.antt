@@ -3,8 +3,9 @@ use Rattle.std.proofs.Common.{◌≡◌, ℕ, zero, suc, ◌≤◌, Bool, true, 
 use Rattle.std.proofs.lemmas.List.{append_assoc}
 use Rattle.sql_tokens.specs.declared.token.Sign.TheVariants as sign
 use Rattle.sql_expr.specs.Reading.{Tokens, Outcome, Parser, ◌>>=◌, pure, behind, eat_sign, separated_from, separated}
-use Rattle.sql_expr.specs.Lines.{Line, gives, many, list}
+use Rattle.sql_expr.specs.Lines.{Line, gives, many}
 use Rattle.sql_expr.specs.Lines as lines
+use Rattle.sql_expr.proofs.LineWords.{list}
 use Rattle.sql_expr.proofs.Heads.{Barred, Head, clear, begins, all_avoid, begins-clear, clear-begins, begins-left, begins-right}
 use Rattle.sql_expr.proofs.Agreement.{Agrees, Tests, tests-sign, eaten, bind_some, bar_sign, same_value, same_rest, read_then}
 

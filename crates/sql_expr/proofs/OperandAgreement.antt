@@ -9,6 +9,7 @@ use Rattle.sql_expr.specs.Expressions.{grouped_from}
 use Rattle.sql_expr.specs.Lines.{Line, gives, many, word as a_word}
 use Rattle.sql_expr.specs.Lines as lines
 use Rattle.sql_expr.specs.Grammar.{operation}
+use Rattle.sql_expr.proofs.LineWords as words
 use Rattle.sql_expr.proofs.ExpressionLines.{grouped, applied, chain}
 use Rattle.sql_expr.proofs.Heads.{Barred, Head, clear, begins, all_avoid, begins-clear, clear-begins, begins-left, begins-right}
 use Rattle.sql_expr.proofs.Agreement.{Agrees, Stands, tests-word, bar_word, bind_some, same_value, same_rest, same_read, read_then, taken-cases, taken-some, taken-nothing, none-barred, agrees-pure, agrees-bind, agrees-word, agrees-same, agrees-fewer}
@@ -23,13 +24,13 @@ module _ (f : List Expr → Expr) (word : Text) (P : Line Expr) where
       (lines.◌>>◌ (a_word word) (lines.◌>>=◌ (lines.◌>>=◌ P (λ a. lines.◌>>=◌ (many (lines.◌>>◌ (a_word word) P)) (λ more. gives ((first ∷ []) ++ a ∷ more)))) (λ all. gives (f all))))
       (gives first))
 
-  there : (ts : Tokens) (x : Expr) (us : Tokens) → in_order ts x us → (lines.◌<$>◌ (operation f) (lines.separated (a_word word) P)) ts x us
+  there : (ts : Tokens) (x : Expr) (us : Tokens) → in_order ts x us → (lines.◌<$>◌ (operation f) (words.separated (a_word word) P)) ts x us
   there ts x us (first, middle, front, inl (u, behind, keyed, (all, ended, (a, second, next, (more, last, back, (same, here))), (value, end)))) =
       (first ∷ a ∷ more, last, (first, middle, front, (a ∷ more, last, (second, (tt, behind, keyed, next), back), (refl, refl))), (value ∙ ap f same, end ∙ here))
   there ts x us (first, middle, front, inr (value, end)) =
       (first ∷ [], middle, (first, middle, front, ([], middle, refl, (refl, refl))), (value, end))
 
-  back_of : (ts : Tokens) (x : Expr) (us : Tokens) → (lines.◌<$>◌ (operation f) (lines.separated (a_word word) P)) ts x us → in_order ts x us
+  back_of : (ts : Tokens) (x : Expr) (us : Tokens) → (lines.◌<$>◌ (operation f) (words.separated (a_word word) P)) ts x us → in_order ts x us
   back_of ts x us (l, last, (first, middle, front, ([], second, none, (same, here))), (value, end)) =
       (first, middle, front, inr (value ∙ ap (operation f) same, end ∙ (here ∙ none)))
   back_of ts x us (l, last, (first, middle, front, (a ∷ more, second, (third, (u, behind, keyed, next), back), (same, here))), (value, end)) =
@@ -38,7 +39,7 @@ module _ (f : List Expr → Expr) (word : Text) (P : Line Expr) where
   pub agrees-operands : {S : Type 0} {n : ℕ} {p : Parser Expr} {k : ℕ} {heads : List Head} {stop : Barred} (tail : Barred)
       → Agrees S n p P (suc k) heads stop → all_avoid stop (Head.word word ∷ Head.others tail ∷ []) ≡ true → all_avoid (bar_word word) (Head.others tail ∷ []) ≡ true → all_avoid tail (Head.others tail ∷ []) ≡ true
       → Agrees S n (p >>= (λ first. eat_word word >>= (λ more. cond more ((λ ts. separated_from (eat_word word) p (length ts) (first ∷ []) ts) >>= (λ all. pure (f all))) (pure first))))
-      (lines.◌<$>◌ (operation f) (lines.separated (a_word word) P)) (suc k) heads tail
+      (lines.◌<$>◌ (operation f) (words.separated (a_word word) P)) (suc k) heads tail
   agrees-operands {k = k} tail each apart ends same = agrees-same there back_of (agrees-fewer (suc k) (omega arith)
       (agrees-bind each (λ first. agrees-word word
       (agrees-bind (agrees-separated_from (tests-word word) each tail apart ends (first ∷ [])) (λ all. agrees-pure (f all) tail) same)

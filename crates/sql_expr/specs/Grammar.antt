@@ -66,32 +66,47 @@ pub data Spells : (rule : Rule) → Tokens → Meaning rule → Tokens → Type 
   plain_literal : {ts us : Tokens} {value : Literal} {x : Expr} → literal ts value us → x ≡ e.Literal value → Spells primary ts x us
   param : {ts us : Tokens} {digits : Text} {x : Expr} → parameter ts digits us → x ≡ e.Param digits → Spells primary ts x us
   column_reference : {ts us : Tokens} {c : ColumnRef} {x : Expr} → column ts c us → x ≡ e.Column c → Spells primary ts x us
-  call_star : {ts a b c us : Tokens} {function : Text} {x : Expr} → name ts function a → mark sign.LeftParen a tt b → mark sign.Star b tt c → mark sign.RightParen c tt us → x ≡ e.CallStar function → Spells primary ts x us
-  call : {ts a b c us : Tokens} {function : Text} {x y : Expr} → name ts function a → mark sign.LeftParen a tt b → Spells disjunction b x c → mark sign.RightParen c tt us → y ≡ e.Call function x → Spells primary ts y us
-  parenthesized : {ts a b us : Tokens} {x y : Expr} → mark sign.LeftParen ts tt a → Spells disjunction a x b → mark sign.RightParen b tt us → y ≡ x → Spells primary ts y us
-  negative_literal : {ts a us : Tokens} {digits : Text} {x : Expr} → mark sign.Minus ts tt a → number a digits us → x ≡ e.Literal (literal_of.Number (record { negative = true; digits = digits })) → Spells signed ts x us
+  call_star : {ts a b c us : Tokens} {function : Text} {x : Expr}
+      → name ts function a → mark sign.LeftParen a tt b → mark sign.Star b tt c → mark sign.RightParen c tt us → x ≡ e.CallStar function → Spells primary ts x us
+  call : {ts a b c us : Tokens} {function : Text} {x y : Expr}
+      → name ts function a → mark sign.LeftParen a tt b → Spells disjunction b x c → mark sign.RightParen c tt us → y ≡ e.Call function x → Spells primary ts y us
+  parenthesized : {ts a b us : Tokens} {x y : Expr}
+      → mark sign.LeftParen ts tt a → Spells disjunction a x b → mark sign.RightParen b tt us → y ≡ x → Spells primary ts y us
+  negative_literal : {ts a us : Tokens} {digits : Text} {x : Expr}
+      → mark sign.Minus ts tt a → number a digits us → x ≡ e.Literal (literal_of.Number (record { negative = true; digits = digits })) → Spells signed ts x us
   minus : {ts a b us : Tokens} {x y : Expr} → mark sign.Minus ts tt a → unless number a tt b → Spells signed b x us → y ≡ e.Minus x → Spells signed ts y us
   only_primary : {ts us : Tokens} {x : Expr} → Spells primary ts x us → Spells signed ts x us
   only_signed : {ts us : Tokens} {x : Expr} → Spells signed ts x us → Spells product ts x us
-  multiplied : {ts a b us : Tokens} {x y z : Expr} {op : Arithmetic} → Spells product ts x a → multiplicative a op b → Spells signed b y us → z ≡ e.Arithmetic op x y → Spells product ts z us
+  multiplied : {ts a b us : Tokens} {x y z : Expr} {op : Arithmetic}
+      → Spells product ts x a → multiplicative a op b → Spells signed b y us → z ≡ e.Arithmetic op x y → Spells product ts z us
   only_product : {ts us : Tokens} {x : Expr} → Spells product ts x us → Spells sum ts x us
-  added : {ts a b us : Tokens} {x y z : Expr} {op : Arithmetic} → Spells sum ts x a → additive a op b → Spells product b y us → z ≡ e.Arithmetic op x y → Spells sum ts z us
+  added : {ts a b us : Tokens} {x y z : Expr} {op : Arithmetic}
+      → Spells sum ts x a → additive a op b → Spells product b y us → z ≡ e.Arithmetic op x y → Spells sum ts z us
   last_expression : {ts us : Tokens} {x : Expr} {xs : List Expr} → Spells disjunction ts x us → xs ≡ x ∷ [] → Spells expressions ts xs us
-  next_expression : {ts a b us : Tokens} {x : Expr} {xs ys : List Expr} → Spells disjunction ts x a → mark sign.Comma a tt b → Spells expressions b xs us → ys ≡ x ∷ xs → Spells expressions ts ys us
+  next_expression : {ts a b us : Tokens} {x : Expr} {xs ys : List Expr}
+      → Spells disjunction ts x a → mark sign.Comma a tt b → Spells expressions b xs us → ys ≡ x ∷ xs → Spells expressions ts ys us
   only_sum : {ts us : Tokens} {x : Expr} → Spells sum ts x us → Spells membership ts x us
-  in_list : {ts a b c d f us : Tokens} {x y : Expr} {xs : List Expr} {is_not : Bool} → Spells sum ts x a → said "not" a is_not b → key "in" b tt c → mark sign.LeftParen c tt d → Spells expressions d xs f → mark sign.RightParen f tt us → y ≡ e.InList x xs is_not → Spells membership ts y us
-  between : {ts a b c d f us : Tokens} {x y low high : Expr} {is_not : Bool} → Spells sum ts x a → said "not" a is_not b → key "between" b tt c → Spells sum c low d → key "and" d tt f → Spells sum f high us → y ≡ e.Between x low high is_not → Spells membership ts y us
+  in_list : {ts a b c d f us : Tokens} {x y : Expr} {xs : List Expr} {is_not : Bool}
+      → Spells sum ts x a → said "not" a is_not b → key "in" b tt c → mark sign.LeftParen c tt d → Spells expressions d xs f → mark sign.RightParen f tt us
+      → y ≡ e.InList x xs is_not → Spells membership ts y us
+  between : {ts a b c d f us : Tokens} {x y low high : Expr} {is_not : Bool}
+      → Spells sum ts x a → said "not" a is_not b → key "between" b tt c → Spells sum c low d → key "and" d tt f → Spells sum f high us
+      → y ≡ e.Between x low high is_not → Spells membership ts y us
   only_membership : {ts us : Tokens} {x : Expr} → Spells membership ts x us → Spells comparison ts x us
-  compared : {ts a b us : Tokens} {x y z : Expr} {op : Comparison} → Spells membership ts x a → comparison_operator a op b → Spells membership b y us → z ≡ e.Comparison op x y → Spells comparison ts z us
+  compared : {ts a b us : Tokens} {x y z : Expr} {op : Comparison}
+      → Spells membership ts x a → comparison_operator a op b → Spells membership b y us → z ≡ e.Comparison op x y → Spells comparison ts z us
   only_comparison : {ts us : Tokens} {x : Expr} → Spells comparison ts x us → Spells null_test ts x us
-  null_tested : {ts a b c us : Tokens} {x y : Expr} {is_not : Bool} → Spells comparison ts x a → key "is" a tt b → said "not" b is_not c → key "null" c tt us → y ≡ e.IsNull x is_not → Spells null_test ts y us
+  null_tested : {ts a b c us : Tokens} {x y : Expr} {is_not : Bool}
+      → Spells comparison ts x a → key "is" a tt b → said "not" b is_not c → key "null" c tt us → y ≡ e.IsNull x is_not → Spells null_test ts y us
   negated : {ts a us : Tokens} {x y : Expr} → key "not" ts tt a → Spells negation a x us → y ≡ e.Not x → Spells negation ts y us
   only_null_test : {ts us : Tokens} {x : Expr} → Spells null_test ts x us → Spells negation ts x us
   last_negation : {ts us : Tokens} {x : Expr} {xs : List Expr} → Spells negation ts x us → xs ≡ x ∷ [] → Spells negations ts xs us
-  next_negation : {ts a b us : Tokens} {x : Expr} {xs ys : List Expr} → Spells negation ts x a → key "and" a tt b → Spells negations b xs us → ys ≡ x ∷ xs → Spells negations ts ys us
+  next_negation : {ts a b us : Tokens} {x : Expr} {xs ys : List Expr}
+      → Spells negation ts x a → key "and" a tt b → Spells negations b xs us → ys ≡ x ∷ xs → Spells negations ts ys us
   conjoined : {ts us : Tokens} {x : Expr} {xs : List Expr} → Spells negations ts xs us → x ≡ operation e.And xs → Spells conjunction ts x us
   last_conjunction : {ts us : Tokens} {x : Expr} {xs : List Expr} → Spells conjunction ts x us → xs ≡ x ∷ [] → Spells conjunctions ts xs us
-  next_conjunction : {ts a b us : Tokens} {x : Expr} {xs ys : List Expr} → Spells conjunction ts x a → key "or" a tt b → Spells conjunctions b xs us → ys ≡ x ∷ xs → Spells conjunctions ts ys us
+  next_conjunction : {ts a b us : Tokens} {x : Expr} {xs ys : List Expr}
+      → Spells conjunction ts x a → key "or" a tt b → Spells conjunctions b xs us → ys ≡ x ∷ xs → Spells conjunctions ts ys us
   disjoined : {ts us : Tokens} {x : Expr} {xs : List Expr} → Spells conjunctions ts xs us → x ≡ operation e.Or xs → Spells disjunction ts x us
 
 unfoldable pub expression : Line Expr

@@ -4,7 +4,6 @@ use Prim.Native.String.{String}
 use Rattle.sql_tokens.specs.declared.token.Token.{Token}
 use Rattle.sql_tokens.specs.declared.token.Token.TheVariants as token
 use Rattle.sql_tokens.specs.declared.token.Sign.{Sign}
-use Rattle.sql_tokens.specs.declared.token.Sign.TheVariants as sign
 
 abbrev pub Text : Type 0
 Text = List ℕ
@@ -54,17 +53,9 @@ parameter ts digits us = TakesToken (token.Param digits) ts us
 
 -- ---- no token
 
--- nothing is spelt so
-abbrev pub nowhere : {A : Type 0} → Line A
-nowhere ts a us = ⊥
-
 -- the value alone
 abbrev pub gives : {A : Type 0} → A → Line A
 gives value ts a us = (a ≡ value) × (us ≡ ts)
-
--- where the test holds
-abbrev pub provided : Bool → Line (Unit {0})
-provided holds ts u us = (us ≡ ts) × (holds ≡ true)
 
 -- `(before P)`: where P comes next
 abbrev pub ahead : {A : Type 0} → Line A → Line (Unit {0})
@@ -97,10 +88,6 @@ abbrev pub ◌or◌ : {A : Type 0} → Line A → Line A → Line A
 abbrev pub maybe : {A : Type 0} → Line A → Line (Option A)
 maybe P = Some <$> P or gives None
 
--- `[P]` of a list, which is empty where it is left out
-abbrev pub any : {A : Type 0} → Line (List A) → Line (List A)
-any P = P or gives []
-
 -- `[KEYWORD]`, and whether it is written
 abbrev pub said : String → Line Bool
 said w = key w >> gives true or gives false
@@ -113,14 +100,3 @@ before w P = key w >> ahead P or unless (key w >> P)
 abbrev pub many : {A : Type 0} → Line A → Line (List A)
 many P ts [] us = us ≡ ts
 many P ts (a ∷ more) us = (middle : Tokens) × P ts a middle × many P middle more us
-
--- `P {separator P}`
-abbrev pub separated : {A : Type 0} → Line (Unit {0}) → Line A → Line (List A)
-separated separator P = do first ← P; others ← many (separator >> P); gives (first ∷ others)
-
--- `list(P)`, and `"(" P ")"`
-abbrev pub list : {A : Type 0} → Line A → Line (List A)
-list P = separated (mark sign.Comma) P
-
-abbrev pub parenthesized : {A : Type 0} → Line A → Line A
-parenthesized P = do mark sign.LeftParen; inner ← P; mark sign.RightParen; gives inner

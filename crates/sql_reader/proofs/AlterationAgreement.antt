@@ -13,6 +13,7 @@ use Rattle.sql_reader.specs.Grammar as grammar
 use Rattle.sql_expr.proofs.Heads.{Head}
 use Rattle.sql_expr.proofs.Agreement.{Agrees, nothing, agrees-pure, agrees-bind, agrees-same, agrees-fewer, agrees-word, agrees-expect_word}
 use Rattle.sql_expr.proofs.ExpressionAgreement.{agrees-name}
+use Rattle.sql_reader.proofs.CommandLines as line
 use Rattle.sql_reader.proofs.ColumnAgreement.{agrees-column_def}
 use Rattle.sql_reader.proofs.ColumnWordAgreement.{alter_tail, added, dropped, renamed_column, altered, looks-definition, looks-column, looks-change}
 use Rattle.sql_reader.proofs.KeywordAgreement.{agrees-before}
@@ -25,20 +26,20 @@ abbrev set_type : Text → Line AlterAction
 set_type column = lines.◌<$>◌ (alteration.SetType column) name
 
 abbrev set_default : Text → Line AlterAction
-set_default column = lines.◌>>◌ (a_word (codes "default")) (lines.◌<$>◌ (alteration.SetDefault column) grammar.constant)
+set_default column = lines.◌>>◌ (a_word (codes "default")) (lines.◌<$>◌ (alteration.SetDefault column) line.constant)
 
 abbrev set_line : Text → Line AlterAction
 set_line column = lines.◌or◌ (lines.◌>>◌ (a_word (codes "data")) (lines.◌>>◌ (a_word (codes "type")) (set_type column)))
-    (lines.◌or◌ (set_default column) (lines.◌>>◌ grammar.not_null (gives (alteration.SetNotNull column))))
+    (lines.◌or◌ (set_default column) (lines.◌>>◌ line.not_null (gives (alteration.SetNotNull column))))
 
 abbrev drop_line : Text → Line AlterAction
-drop_line column = lines.◌or◌ (lines.◌>>◌ (a_word (codes "default")) (gives (alteration.DropDefault column))) (lines.◌>>◌ grammar.not_null (gives (alteration.DropNotNull column)))
+drop_line column = lines.◌or◌ (lines.◌>>◌ (a_word (codes "default")) (gives (alteration.DropDefault column))) (lines.◌>>◌ line.not_null (gives (alteration.DropNotNull column)))
 
 abbrev change_line : Text → Line AlterAction
 change_line column = lines.◌or◌ (lines.◌>>◌ (a_word (codes "type")) (set_type column)) (lines.◌or◌ (lines.◌>>◌ (a_word (codes "set")) (set_line column)) (lines.◌>>◌ (a_word (codes "drop")) (drop_line column)))
 
-change-there : (column : Text) (ts : Tokens) (a : AlterAction) (us : Tokens) → change_line column ts a us → grammar.change column ts a us
-unfolding grammar.change
+change-there : (column : Text) (ts : Tokens) (a : AlterAction) (us : Tokens) → change_line column ts a us → line.change column ts a us
+unfolding line.change
 change-there column ts a us (inl rest) = inl (None, ts, inr (refl, refl), rest)
 change-there column ts a us (inr (inl (u, middle, set, inl (v, last, data_word, rest)))) = inl (Some v, last, inl (v, last, (u, middle, set, data_word), (refl, refl)), rest)
 change-there column ts a us (inr (inl (u, middle, set, inr (inl rest)))) = inr (inl (u, middle, set, rest))
@@ -46,8 +47,8 @@ change-there column ts a us (inr (inl (u, middle, set, inr (inr rest)))) = inr (
 change-there column ts a us (inr (inr (u, middle, drop, inl rest))) = inr (inr (inl (u, middle, drop, rest)))
 change-there column ts a us (inr (inr (u, middle, drop, inr rest))) = inr (inr (inr (inr (u, middle, drop, rest))))
 
-change-back : (column : Text) (ts : Tokens) (a : AlterAction) (us : Tokens) → grammar.change column ts a us → change_line column ts a us
-unfolding grammar.change
+change-back : (column : Text) (ts : Tokens) (a : AlterAction) (us : Tokens) → line.change column ts a us → change_line column ts a us
+unfolding line.change
 change-back column ts a us (inl (found, end_of_set, inl (v, last, (u, middle, set, data_word), (value, end)), rest)) =
     inr (inl (u, middle, set, inl (v, last, data_word, subst (λ vs. (lines.◌>>◌ (a_word (codes "type")) (set_type column)) vs a us) end rest)))
 change-back column ts a us (inl (found, end_of_set, inr (value, end), rest)) = inl (subst (λ vs. (lines.◌>>◌ (a_word (codes "type")) (set_type column)) vs a us) end rest)
@@ -68,8 +69,8 @@ abbrev action_line : Line AlterAction
 action_line = lines.◌or◌ (lines.◌>>◌ (a_word (codes "add")) (before_column (lines.◌>>◌ name name) added)) (lines.◌or◌ (lines.◌>>◌ (a_word (codes "drop")) (before_column name dropped)) (lines.◌or◌ (lines.◌>>◌ (a_word (codes "rename")) rename_line)
     (lines.◌or◌ (lines.◌>>◌ (a_word (codes "set")) (lines.◌>>◌ (a_word (codes "schema")) (lines.◌<$>◌ alteration.SetSchema name))) (lines.◌>>◌ (a_word (codes "alter")) (before_column (lines.◌>>◌ name grammar.change_begun) altered)))))
 
-action-there : (ts : Tokens) (a : AlterAction) (us : Tokens) → action_line ts a us → grammar.action ts a us
-unfolding grammar.action
+action-there : (ts : Tokens) (a : AlterAction) (us : Tokens) → action_line ts a us → line.action ts a us
+unfolding line.action
 action-there ts a us (inl add) = inl add
 action-there ts a us (inr (inl drop)) = inr (inl drop)
 action-there ts a us (inr (inr (inl (u, middle, rename, inl (v, last, to, (new, end, named, given)))))) = inr (inr (inr (inl (u, middle, rename, (new, end, (v, last, to, named), given)))))
@@ -77,8 +78,8 @@ action-there ts a us (inr (inr (inl (u, middle, rename, inr rest)))) = inr (inr 
 action-there ts a us (inr (inr (inr (inl set)))) = inr (inr (inr (inr (inl set))))
 action-there ts a us (inr (inr (inr (inr alter)))) = inr (inr (inr (inr (inr alter))))
 
-action-back : (ts : Tokens) (a : AlterAction) (us : Tokens) → grammar.action ts a us → action_line ts a us
-unfolding grammar.action
+action-back : (ts : Tokens) (a : AlterAction) (us : Tokens) → line.action ts a us → action_line ts a us
+unfolding line.action
 action-back ts a us (inl add) = inl add
 action-back ts a us (inr (inl drop)) = inr (inl drop)
 action-back ts a us (inr (inr (inl (u, middle, rename, rest)))) = inr (inr (inl (u, middle, rename, inr rest)))
@@ -93,11 +94,11 @@ abbrev pub action_heads : List Head
 action_heads = Head.word (codes "add") ∷ Head.word (codes "drop") ∷ Head.word (codes "rename") ∷ Head.word (codes "set") ∷ Head.word (codes "alter") ∷ []
 
 module _ {n : ℕ} where
-  agrees-renamed : Agrees (Unit {0}) n spec.renamed_to grammar.renamed 2 (Head.word (codes "to") ∷ []) nothing
+  agrees-renamed : Agrees (Unit {0}) n spec.renamed_to line.renamed 2 (Head.word (codes "to") ∷ []) nothing
   unfolding spec.renamed_to
   agrees-renamed = agrees-bind (agrees-expect_word (codes "to")) (λ u. agrees-name) refl
 
-  agrees-not_null : Agrees (Unit {0}) n spec.not_null grammar.not_null 2 (Head.word (codes "not") ∷ []) nothing
+  agrees-not_null : Agrees (Unit {0}) n spec.not_null line.not_null 2 (Head.word (codes "not") ∷ []) nothing
   unfolding spec.not_null
   agrees-not_null = agrees-bind (agrees-expect_word (codes "not")) (λ u. agrees-expect_word (codes "null")) refl
 
@@ -131,7 +132,7 @@ module _ {n : ℕ} where
       (agrees-word (codes "to") (agrees-bind agrees-name (λ new. agrees-pure (alteration.RenameTo new) alter_tail) refl)
       (agrees-before "column" looks-column (agrees-bind agrees-name (λ column. agrees-bind agrees-renamed (λ new. agrees-pure (alteration.RenameColumn column new) alter_tail) refl) refl)) refl)
 
-  pub agrees-action : Agrees (Unit {0}) n spec.table_action grammar.action 1 action_heads alter_tail
+  pub agrees-action : Agrees (Unit {0}) n spec.table_action line.action 1 action_heads alter_tail
   unfolding spec.table_action
   agrees-action = agrees-same action-there action-back (agrees-fewer 1 (omega arith)
       (agrees-word (codes "add") (agrees-before "column" looks-definition (agrees-bind (agrees-column_def false) (λ def. agrees-pure (alteration.AddColumn def) alter_tail) refl))
@@ -140,13 +141,13 @@ module _ {n : ℕ} where
       (agrees-word (codes "set") (agrees-bind (agrees-expect_word (codes "schema")) (λ u. agrees-bind agrees-name (λ schema. agrees-pure (alteration.SetSchema schema) alter_tail) refl) refl)
       (agrees-bind (agrees-expect_word (codes "alter")) (λ u. agrees-alter_column) refl) refl) refl) refl) refl))
 
-  agrees-renaming : Agrees (Unit {0}) n spec.renaming grammar.renaming 1 (Head.name ∷ []) alter_tail
-  unfolding spec.renaming grammar.renaming
+  agrees-renaming : Agrees (Unit {0}) n spec.renaming line.renaming 1 (Head.name ∷ []) alter_tail
+  unfolding spec.renaming line.renaming
   agrees-renaming = agrees-fewer 1 (omega arith) (agrees-bind agrees-name (λ old. agrees-bind (agrees-expect_word (codes "rename")) (λ u.
       agrees-bind agrees-renamed (λ new. agrees-pure (schema.Rename old new) alter_tail) refl) refl) refl)
 
-  pub agrees-alter : Agrees (Unit {0}) n spec.alter grammar.alter 1 (Head.word (codes "schema") ∷ Head.word (codes "table") ∷ []) alter_tail
-  unfolding spec.alter grammar.alter
+  pub agrees-alter : Agrees (Unit {0}) n spec.alter line.alter 1 (Head.word (codes "schema") ∷ Head.word (codes "table") ∷ []) alter_tail
+  unfolding spec.alter line.alter
   agrees-alter = agrees-fewer 1 (omega arith)
       (agrees-word (codes "schema") (agrees-bind agrees-renaming (λ renamed. agrees-pure (command.Schema renamed) alter_tail) refl)
       (agrees-bind (agrees-expect_word (codes "table")) (λ u. agrees-bind agrees-relation (λ altered. agrees-bind agrees-action (λ done.

@@ -11,6 +11,7 @@ use Rattle.sql_expr.proofs.Heads.{Barred, Head}
 use Rattle.sql_expr.proofs.Agreement.{Agrees, nothing, agrees-pure, agrees-bind, agrees-same, agrees-wider, agrees-word, agrees-expect_word}
 use Rattle.sql_expr.proofs.ExpressionAgreement.{agrees-name}
 use Rattle.sql_expr.proofs.TokenKinds.{bar_names}
+use Rattle.sql_reader.proofs.CommandLines as line
 use Rattle.sql_reader.proofs.KeywordAgreement.{agrees-either, agrees-before, looks-name}
 
 -- what could go on with a command that ends a block or begins one
@@ -28,20 +29,20 @@ abbrev rest_line : Line Command
 rest_line = lines.◌or◌ (lines.◌>>◌ (a_word (codes "to")) (lines.◌<$>◌ command.RollbackTo grammar.savepoint_name)) (gives command.Rollback)
 
 module _ {n : ℕ} where
-  pub agrees-begin : Agrees (Unit {0}) n spec.begin grammar.begin 0 work_heads work_words
-  unfolding spec.begin grammar.begin
+  pub agrees-begin : Agrees (Unit {0}) n spec.begin line.begin 0 work_heads work_words
+  unfolding spec.begin line.begin
   agrees-begin = agrees-either (codes "work") (codes "transaction") refl refl (agrees-pure command.Begin work_words)
 
-  pub agrees-start : Agrees (Unit {0}) n spec.start grammar.start 1 (Head.word (codes "transaction") ∷ []) nothing
-  unfolding spec.start grammar.start
+  pub agrees-start : Agrees (Unit {0}) n spec.start line.start 1 (Head.word (codes "transaction") ∷ []) nothing
+  unfolding spec.start line.start
   agrees-start = agrees-bind (agrees-expect_word (codes "transaction")) (λ u. agrees-pure command.StartTransaction nothing) refl
 
-  pub agrees-commit : Agrees (Unit {0}) n spec.commit grammar.commit 0 work_heads work_words
-  unfolding spec.commit grammar.commit
+  pub agrees-commit : Agrees (Unit {0}) n spec.commit line.commit 0 work_heads work_words
+  unfolding spec.commit line.commit
   agrees-commit = agrees-either (codes "work") (codes "transaction") refl refl (agrees-pure command.Commit work_words)
 
-  pub agrees-abort : Agrees (Unit {0}) n spec.abort grammar.abort 0 work_heads work_words
-  unfolding spec.abort grammar.abort
+  pub agrees-abort : Agrees (Unit {0}) n spec.abort line.abort 0 work_heads work_words
+  unfolding spec.abort line.abort
   agrees-abort = agrees-either (codes "work") (codes "transaction") refl refl (agrees-pure command.Rollback work_words)
 
   pub agrees-savepoint : Agrees (Unit {0}) n spec.savepoint (lines.◌<$>◌ command.Savepoint lines.name) 1 (Head.name ∷ []) nothing
@@ -60,14 +61,14 @@ module _ {n : ℕ} where
   agrees-to : Agrees (Unit {0}) n rest_read rest_line 0 (Head.word (codes "to") ∷ Head.others work_words ∷ []) work_words
   agrees-to = agrees-word (codes "to") (agrees-bind (agrees-wider work_words refl agrees-savepoint_name) (λ found. agrees-pure (command.RollbackTo found) work_words) refl) (agrees-pure command.Rollback work_words) refl
 
-  pub agrees-rollback : Agrees (Unit {0}) n spec.rollback grammar.rollback 0 (Head.word (codes "work") ∷ Head.word (codes "transaction") ∷ Head.word (codes "to") ∷ Head.others work_words ∷ []) work_words
-  unfolding spec.rollback grammar.rollback
+  pub agrees-rollback : Agrees (Unit {0}) n spec.rollback line.rollback 0 (Head.word (codes "work") ∷ Head.word (codes "transaction") ∷ Head.word (codes "to") ∷ Head.others work_words ∷ []) work_words
+  unfolding spec.rollback line.rollback
   agrees-rollback = agrees-same there back (agrees-either (codes "work") (codes "transaction") refl refl agrees-to)
     where
-      there : (ts : Tokens) (c : Command) (us : Tokens) → lines.◌>>◌ grammar.work rest_line ts c us → grammar.rollback ts c us
+      there : (ts : Tokens) (c : Command) (us : Tokens) → lines.◌>>◌ grammar.work rest_line ts c us → line.rollback ts c us
       there ts c us (o, middle, front, inl to) = inr (o, middle, front, to)
       there ts c us (o, middle, front, inr none) = inl (o, middle, front, none)
 
-      back : (ts : Tokens) (c : Command) (us : Tokens) → grammar.rollback ts c us → lines.◌>>◌ grammar.work rest_line ts c us
+      back : (ts : Tokens) (c : Command) (us : Tokens) → line.rollback ts c us → lines.◌>>◌ grammar.work rest_line ts c us
       back ts c us (inl (o, middle, front, none)) = (o, middle, front, inr none)
       back ts c us (inr (o, middle, front, to)) = (o, middle, front, inl to)

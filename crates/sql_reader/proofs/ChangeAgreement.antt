@@ -10,7 +10,7 @@ use Rattle.sql_reader_query.specs.declared.changes.Change.TheVariants.{Update, D
 use Rattle.sql_reader_query.specs.declared.changes.InsertTarget.{InsertTarget}
 use Rattle.sql_expr.specs.Reading.{Text, Tokens, ◌>>=◌, ◌>>◌, pure, expect_word}
 use Rattle.sql_expr.specs.Names.{is_reserved}
-use Rattle.sql_expr.specs.Lines.{Line, gives, nowhere, word as a_word, any, list}
+use Rattle.sql_expr.specs.Lines.{Line, gives, word as a_word}
 use Rattle.sql_expr.specs.Lines as lines
 use Rattle.sql_reader_query.specs.Changes as spec
 use Rattle.sql_reader_query.specs.Lists as spec_lists
@@ -18,10 +18,12 @@ use Rattle.sql_reader_query.specs.Names as spec_names
 use Rattle.sql_reader_query.specs.Outputs as spec_outputs
 use Rattle.sql_reader_query.specs.Query as spec_query
 use Rattle.sql_reader.specs.Grammar as grammar
+use Rattle.sql_expr.proofs.LineWords.{nowhere, any, list}
 use Rattle.sql_expr.proofs.Heads.{Barred, Head, all_avoid}
 use Rattle.sql_expr.proofs.Agreement.{Agrees, nothing, bar_word, bar_sign, agrees-pure, agrees-refuse, agrees-bind, agrees-same, agrees-wider, agrees-fewer, agrees-word, agrees-sign, agrees-expect_word, agrees-expect_sign}
 use Rattle.sql_expr.proofs.ListAgreement.{agrees-list}
 use Rattle.sql_expr.proofs.ExpressionAgreement.{agrees-expression, expression_heads, operators, list_tail, agrees-name}
+use Rattle.sql_reader.proofs.CommandLines as line
 use Rattle.sql_reader.proofs.NameAgreement.{agrees-relation, agrees-enclosed_names}
 use Rattle.sql_reader.proofs.OptionalAgreement.{also, agrees-any, agrees-maybe}
 use Rattle.sql_reader.proofs.OutputAgreement.{outputs_tail, agrees-outputs}
@@ -43,13 +45,13 @@ returning_tail = also (codes "where" ∷ codes "returning" ∷ []) [] outputs_ta
 -- ---- INSERT
 
 abbrev target_line : Line InsertTarget
-target_line = lines.◌>>◌ (a_word (codes "into")) (lines.◌>>=◌ grammar.relation (λ table. lines.◌>>=◌ (any grammar.parenthesized_names) (λ columns. gives (record { table = table; columns = columns }))))
+target_line = lines.◌>>◌ (a_word (codes "into")) (lines.◌>>=◌ line.relation (λ table. lines.◌>>=◌ (any line.parenthesized_names) (λ columns. gives (record { table = table; columns = columns }))))
 
 abbrev rows_line : QName → List Text → Line InsertTree
-rows_line table columns = lines.◌>>◌ (a_word (codes "values")) (lines.◌>>=◌ (list grammar.row) (λ rows. lines.◌>>=◌ grammar.returning (λ given. gives (record { table = table; columns = columns; rows = rows; returning = given }))))
+rows_line table columns = lines.◌>>◌ (a_word (codes "values")) (lines.◌>>=◌ (list line.row) (λ rows. lines.◌>>=◌ line.returning (λ given. gives (record { table = table; columns = columns; rows = rows; returning = given }))))
 
-there : (ts : Tokens) (i : InsertTree) (us : Tokens) → (lines.◌>>=◌ target_line (λ into. rows_line into.table into.columns)) ts i us → grammar.insertion ts i us
-unfolding grammar.insertion
+there : (ts : Tokens) (i : InsertTree) (us : Tokens) → (lines.◌>>=◌ target_line (λ into. rows_line into.table into.columns)) ts i us → line.insertion ts i us
+unfolding line.insertion
 there ts i us (target, middle, (u, behind_into, into, (table, behind_table, named, (columns, end, listed, given))), rest) = (
   u,
   behind_into,
@@ -67,13 +69,13 @@ there ts i us (target, middle, (u, behind_into, into, (table, behind_table, name
   ),
 )
 
-back : (ts : Tokens) (i : InsertTree) (us : Tokens) → grammar.insertion ts i us → (lines.◌>>=◌ target_line (λ into. rows_line into.table into.columns)) ts i us
-unfolding grammar.insertion
+back : (ts : Tokens) (i : InsertTree) (us : Tokens) → line.insertion ts i us → (lines.◌>>=◌ target_line (λ into. rows_line into.table into.columns)) ts i us
+unfolding line.insertion
 back ts i us (u, behind_into, into, (table, behind_table, named, (columns, end, listed, rest))) =
     (record { table = table; columns = columns }, end, (u, behind_into, into, (table, behind_table, named, (columns, end, listed, (refl, refl)))), rest)
 
 agrees-target : {n : ℕ} → Agrees (Unit {0}) n spec.target target_line 2 (Head.word (codes "into") ∷ []) target_tail
-unfolding spec.target spec_names.optional_names grammar.parenthesized_names
+unfolding spec.target spec_names.optional_names line.parenthesized_names
 agrees-target = agrees-bind (agrees-expect_word (codes "into")) (λ u. agrees-bind agrees-relation (λ table.
     agrees-bind (agrees-sign sign.LeftParen (agrees-wider target_tail refl agrees-enclosed_names) (agrees-pure [] target_tail) refl) (λ columns. agrees-pure (record { table = table; columns = columns }) target_tail) refl) refl) refl
 
@@ -81,24 +83,24 @@ agrees-target = agrees-bind (agrees-expect_word (codes "into")) (λ u. agrees-bi
 
 -- a change as it is read
 abbrev updated_line : Line Change
-updated_line = lines.◌>>=◌ grammar.relation (λ table. lines.◌>>◌ (a_word (codes "set")) (lines.◌>>=◌ (list grammar.assignment) (λ assignments. gives (Update table assignments))))
+updated_line = lines.◌>>=◌ line.relation (λ table. lines.◌>>◌ (a_word (codes "set")) (lines.◌>>=◌ (list line.assignment) (λ assignments. gives (Update table assignments))))
 
 abbrev deleted_line : Line Change
-deleted_line = lines.◌>>◌ (a_word (codes "from")) (lines.◌>>=◌ grammar.relation (λ table. gives (Delete table)))
+deleted_line = lines.◌>>◌ (a_word (codes "from")) (lines.◌>>=◌ line.relation (λ table. gives (Delete table)))
 
 abbrev pub changed_line : Line Change
 changed_line = lines.◌or◌ (lines.◌>>◌ (a_word (codes "update")) updated_line) (lines.◌or◌ (lines.◌>>◌ (a_word (codes "delete")) deleted_line) nowhere)
 
-pub changed-there : (ts : Tokens) (c : Change) (us : Tokens) → changed_line ts c us → grammar.changed ts (spec.statement_of c) us
-unfolding grammar.changed grammar.updated grammar.deleted
+pub changed-there : (ts : Tokens) (c : Change) (us : Tokens) → changed_line ts c us → line.changed ts (spec.statement_of c) us
+unfolding line.changed line.updated line.deleted
 changed-there ts c us (inl (u, behind_update, update, (table, behind_table, named, (v, behind_set, set, (assignments, last, listed, (value, end)))))) =
     inl (u, behind_update, update, (table, behind_table, named, (v, behind_set, set, (assignments, last, listed, (ap spec.statement_of value, end)))))
 changed-there ts c us (inr (inl (u, behind_delete, delete, (v, behind_from, from, (table, last, named, (value, end)))))) =
     inr (u, behind_delete, delete, (v, behind_from, from, (table, last, named, (ap spec.statement_of value, end))))
 changed-there ts c us (inr (inr none)) = absurd none
 
-pub changed-back : (ts : Tokens) (f : grammar.Changed) (us : Tokens) → grammar.changed ts f us → (c : Change) × (f ≡ spec.statement_of c) × changed_line ts c us
-unfolding grammar.changed grammar.updated grammar.deleted
+pub changed-back : (ts : Tokens) (f : grammar.Changed) (us : Tokens) → line.changed ts f us → (c : Change) × (f ≡ spec.statement_of c) × changed_line ts c us
+unfolding line.changed line.updated line.deleted
 changed-back ts f us (inl (u, behind_update, update, (table, behind_table, named, (v, behind_set, set, (assignments, last, listed, (value, end)))))) =
     (Update table assignments, value, inl (u, behind_update, update, (table, behind_table, named, (v, behind_set, set, (assignments, last, listed, (refl, end))))))
 changed-back ts f us (inr (u, behind_delete, delete, (v, behind_from, from, (table, last, named, (value, end))))) =
@@ -110,15 +112,15 @@ abbrev position_line : Line Text
 position_line = lines.◌>>◌ (a_word (codes "where")) (lines.◌>>◌ (a_word (codes "current")) (lines.◌>>◌ (a_word (codes "of")) lines.name))
 
 abbrev positioned_line : Change → Line PositionedTree
-positioned_line c = lines.◌>>=◌ position_line (λ cursor. lines.◌>>=◌ grammar.returning (λ given. gives (record { statement = spec.statement_of c None given; cursor = cursor })))
+positioned_line c = lines.◌>>=◌ position_line (λ cursor. lines.◌>>=◌ line.returning (λ given. gives (record { statement = spec.statement_of c None given; cursor = cursor })))
 
-positioned-there : (c : Change) (ts : Tokens) (p : PositionedTree) (us : Tokens) → positioned_line c ts p us → grammar.positioned (spec.statement_of c) ts p us
-unfolding grammar.positioned
+positioned-there : (c : Change) (ts : Tokens) (p : PositionedTree) (us : Tokens) → positioned_line c ts p us → line.positioned (spec.statement_of c) ts p us
+unfolding line.positioned
 positioned-there c ts p us (cursor, middle, (u, behind_where, where_word, (v, behind_current, current, (x, behind_of, of, named))), rest) =
     (x, behind_of, (v, behind_current, (u, behind_where, where_word, current), of), (cursor, middle, named, rest))
 
-positioned-back : (c : Change) (ts : Tokens) (p : PositionedTree) (us : Tokens) → grammar.positioned (spec.statement_of c) ts p us → positioned_line c ts p us
-unfolding grammar.positioned
+positioned-back : (c : Change) (ts : Tokens) (p : PositionedTree) (us : Tokens) → line.positioned (spec.statement_of c) ts p us → positioned_line c ts p us
+unfolding line.positioned
 positioned-back c ts p us (x, behind_of, (v, behind_current, (u, behind_where, where_word, current), of), (cursor, middle, named, rest)) =
     (cursor, middle, (u, behind_where, where_word, (v, behind_current, current, (x, behind_of, of, named))), rest)
 
@@ -128,16 +130,16 @@ agrees-position = agrees-bind (agrees-expect_word (codes "where")) (λ u. agrees
 
 module _ {n : ℕ} where
   pub agrees-returning : (tail : Barred) → all_avoid outputs_tail (Head.others tail ∷ []) ≡ true → all_avoid (bar_word (codes "returning")) (Head.others tail ∷ []) ≡ true
-      → Agrees (Unit {0}) n spec_outputs.returning grammar.returning 0 (Head.word (codes "returning") ∷ Head.others tail ∷ []) tail
-  unfolding spec_outputs.returning grammar.returning
+      → Agrees (Unit {0}) n spec_outputs.returning line.returning 0 (Head.word (codes "returning") ∷ Head.others tail ∷ []) tail
+  unfolding spec_outputs.returning line.returning
   agrees-returning tail ends apart = agrees-any (codes "returning") tail agrees-outputs ends apart
 
-  agrees-value : Agrees (Unit {0}) n spec.value grammar.value 1 (Head.word (codes "default") ∷ expression_heads) operators
-  unfolding spec.value grammar.value is_reserved
+  agrees-value : Agrees (Unit {0}) n spec.value line.value 1 (Head.word (codes "default") ∷ expression_heads) operators
+  unfolding spec.value line.value is_reserved
   agrees-value = agrees-word (codes "default") (agrees-pure value_of.Default operators) (agrees-bind agrees-expression (λ x. agrees-pure (value_of.Expr x) operators) refl) refl
 
-  pub agrees-row : Agrees (Unit {0}) n spec.row grammar.row 1 (Head.sign sign.LeftParen ∷ []) nothing
-  unfolding spec.row grammar.row spec_lists.listed is_reserved
+  pub agrees-row : Agrees (Unit {0}) n spec.row line.row 1 (Head.sign sign.LeftParen ∷ []) nothing
+  unfolding spec.row line.row spec_lists.listed is_reserved
   agrees-row = agrees-fewer 1 (omega arith) (agrees-bind (agrees-expect_sign sign.LeftParen) (λ u. agrees-bind (agrees-list list_tail agrees-value refl refl) (λ values.
       agrees-bind (agrees-expect_sign sign.RightParen) (λ v. agrees-pure values nothing) refl) refl) refl)
 
@@ -148,12 +150,12 @@ module _ {n : ℕ} where
   agrees-rows table columns = agrees-bind (agrees-expect_word (codes "values")) (λ u. agrees-bind (agrees-list (bar_sign sign.Comma) agrees-row refl refl) (λ rows.
       agrees-bind (agrees-returning returning_tail refl refl) (λ given. agrees-pure (record { table = table; columns = columns; rows = rows; returning = given }) returning_tail) refl) refl) refl
 
-  pub agrees-insertion : Agrees (Unit {0}) n spec.insertion grammar.insertion 4 (Head.word (codes "into") ∷ []) returning_tail
+  pub agrees-insertion : Agrees (Unit {0}) n spec.insertion line.insertion 4 (Head.word (codes "into") ∷ []) returning_tail
   unfolding spec.insertion
   agrees-insertion = agrees-same there back (agrees-bind agrees-target (λ into. agrees-rows into.table into.columns) refl)
 
-  agrees-assignment : Agrees (Unit {0}) n spec.assignment grammar.assignment 1 (Head.name ∷ []) operators
-  unfolding spec.assignment grammar.assignment
+  agrees-assignment : Agrees (Unit {0}) n spec.assignment line.assignment 1 (Head.name ∷ []) operators
+  unfolding spec.assignment line.assignment
   agrees-assignment = agrees-fewer 1 (omega arith) (agrees-bind agrees-name (λ column. agrees-bind (agrees-expect_sign sign.Equal) (λ u. agrees-bind agrees-value (λ new.
       agrees-pure (record { column = column; value = new }) operators) refl) refl) refl)
 
@@ -170,12 +172,12 @@ module _ {n : ℕ} where
   unfolding spec.change
   agrees-change = agrees-word (codes "update") agrees-updated (agrees-word (codes "delete") agrees-deleted (agrees-refuse 3 [] list_tail) refl) refl
 
-  pub agrees-searched : (c : Change) → Agrees (Unit {0}) n (spec.searched c) (grammar.searched (spec.statement_of c)) 0 (Head.word (codes "where") ∷ Head.others where_tail ∷ []) returning_tail
-  unfolding spec.searched grammar.searched spec_query.condition is_reserved
+  pub agrees-searched : (c : Change) → Agrees (Unit {0}) n (spec.searched c) (line.searched (spec.statement_of c)) 0 (Head.word (codes "where") ∷ Head.others where_tail ∷ []) returning_tail
+  unfolding spec.searched line.searched spec_query.condition is_reserved
   agrees-searched c = agrees-bind (agrees-maybe (codes "where") where_tail agrees-expression refl refl) (λ filter. agrees-bind (agrees-returning returning_tail refl refl) (λ given.
       agrees-pure (spec.statement_of c filter given) returning_tail) refl) refl
 
-  pub agrees-positioned : (c : Change) → Agrees (Unit {0}) n (spec.positioned c) (grammar.positioned (spec.statement_of c)) 4 (Head.word (codes "where") ∷ []) returning_tail
-  unfolding spec.positioned grammar.positioned spec.position
+  pub agrees-positioned : (c : Change) → Agrees (Unit {0}) n (spec.positioned c) (line.positioned (spec.statement_of c)) 4 (Head.word (codes "where") ∷ []) returning_tail
+  unfolding spec.positioned line.positioned spec.position
   agrees-positioned c = agrees-same (positioned-there c) (positioned-back c) (agrees-bind agrees-position (λ cursor. agrees-bind (agrees-returning returning_tail refl refl) (λ given.
       agrees-pure (record { statement = spec.statement_of c None given; cursor = cursor }) returning_tail) refl) refl)

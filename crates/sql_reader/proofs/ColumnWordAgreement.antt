@@ -11,6 +11,7 @@ use Rattle.sql_reader_catalog.specs.Keywords as spec
 use Rattle.sql_reader.specs.Grammar as grammar
 use Rattle.sql_expr.proofs.Heads.{Barred}
 use Rattle.sql_expr.proofs.Agreement.{word-seen, sees-word, two-tokens}
+use Rattle.sql_reader.proofs.CommandLines as line
 use Rattle.sql_reader.proofs.KeywordAgreement.{Looks, looks-name, name-there, name-sees, behind-name}
 use Rattle.sql_reader.proofs.PartAgreement.{part_words}
 
@@ -82,13 +83,13 @@ looks-change = record {
 -- ---- what stands behind `[COLUMN]`
 
 abbrev pub added : Line AlterAction
-added = lines.◌<$>◌ alteration.AddColumn (grammar.column_def false)
+added = lines.◌<$>◌ alteration.AddColumn (line.column_def false)
 
 abbrev pub dropped : Line AlterAction
 dropped = lines.◌<$>◌ alteration.DropColumn name
 
 abbrev pub renamed_column : Line AlterAction
-renamed_column = lines.◌>>=◌ name (λ column. lines.◌<$>◌ (alteration.RenameColumn column) grammar.renamed)
+renamed_column = lines.◌>>=◌ name (λ column. lines.◌<$>◌ (alteration.RenameColumn column) line.renamed)
 
 abbrev pub altered : Line AlterAction
-altered = lines.◌>>=◌ name grammar.change
+altered = lines.◌>>=◌ name line.change

@@ -21,11 +21,12 @@ use Rattle.sql_reader.specs.declared.leading.Keyword.{Keyword}
 use Rattle.sql_reader.specs.Leading.{leading_words, keyword_of}
 use Rattle.sql_reader.specs.Commands.{from_keyword, from_word, whole, command_of, or_syntax_error, command_read}
 use Rattle.sql_reader.specs.Commands as spec
-use Rattle.sql_reader.specs.Grammar.{prepared_command, cursor_command, block_command, setting_command, catalog_command, SpellsAll, IsRead}
-use Rattle.sql_reader.specs.Grammar as grammar
+use Rattle.sql_reader.specs.Grammar.{SpellsAll, IsRead}
 use Rattle.sql_reader_query.specs.Statements as statements
 use Rattle.sql_expr.proofs.Heads.{Barred, Head, begins}
 use Rattle.sql_expr.proofs.Agreement.{Agrees}
+use Rattle.sql_reader.proofs.CommandCases.{line-command, case-command}
+use Rattle.sql_reader.proofs.CommandLines as line
 use Rattle.sql_reader.proofs.StatementAgreement.{agrees-statement_command}
 use Rattle.sql_reader.proofs.PreparedAgreement.{agrees-prepare, agrees-execute, agrees-explain, agrees-deallocate, agrees-discard}
 use Rattle.sql_reader.proofs.CursorAgreement.{agrees-declare}
@@ -41,14 +42,14 @@ use Rattle.sql_reader.proofs.LineAgreement.{agrees-backslash_line}
 
 -- The command behind a leading word is spelt from that word on.
 abbrev Row : Text × Keyword → Type 0
-Row row = (ts : Tokens) (c : Command) (us : Tokens) → from_keyword (Some row.1) (token.Word row.0 ∷ ts) ≡ Some (c, us) → grammar.command (token.Word row.0 ∷ ts) c us
+Row row = (ts : Tokens) (c : Command) (us : Tokens) → from_keyword (Some row.1) (token.Word row.0 ∷ ts) ≡ Some (c, us) → line.command (token.Word row.0 ∷ ts) c us
 
 abbrev Rows : List (Text × Keyword) → Type 0
 Rows [] = Unit {0}
 Rows (row ∷ rows) = Row row × Rows rows
 
 by_rows : (rows : List (Text × Keyword)) → Rows rows → (w : Text) (ts : Tokens) (c : Command) (us : Tokens)
-    → from_keyword (lookup (λ leading. bytes_eq leading w) rows) (token.Word w ∷ ts) ≡ Some (c, us) → grammar.command (token.Word w ∷ ts) c us
+    → from_keyword (lookup (λ leading. bytes_eq leading w) rows) (token.Word w ∷ ts) ≡ Some (c, us) → line.command (token.Word w ∷ ts) c us
 by_rows [] all w ts c us e = cc
 by_rows (row ∷ rows) all w ts c us e = by (bytes_eq row.0 w) refl (by_rows rows all.1 w ts c us)
   where
@@ -56,15 +57,15 @@ by_rows (row ∷ rows) all w ts c us e = by (bytes_eq row.0 w) refl (by_rows row
     Found b = from_keyword (cond b (Some row.1) (lookup (λ leading. bytes_eq leading w) rows)) (token.Word w ∷ ts) ≡ Some (c, us)
 
     by : (b : Bool) → bytes_eq row.0 w ≡ b
-        → (from_keyword (lookup (λ leading. bytes_eq leading w) rows) (token.Word w ∷ ts) ≡ Some (c, us) → grammar.command (token.Word w ∷ ts) c us) → grammar.command (token.Word w ∷ ts) c us
+        → (from_keyword (lookup (λ leading. bytes_eq leading w) rows) (token.Word w ∷ ts) ≡ Some (c, us) → line.command (token.Word w ∷ ts) c us) → line.command (token.Word w ∷ ts) c us
     by true q later =
         let same = (bytes_eq-Decides row.0 w).0 q in
         let here : from_keyword (Some row.1) (token.Word w ∷ ts) ≡ Some (c, us) = subst Found q e in
-        subst (λ v. grammar.command (token.Word v ∷ ts) c us) same (all.0 ts c us (subst (λ v. from_keyword (Some row.1) (token.Word v ∷ ts) ≡ Some (c, us)) (sym same) here))
+        subst (λ v. line.command (token.Word v ∷ ts) c us) same (all.0 ts c us (subst (λ v. from_keyword (Some row.1) (token.Word v ∷ ts) ≡ Some (c, us)) (sym same) here))
     by false q later = later (subst Found q e)
 
 all_rows : Rows leading_words
-unfolding grammar.command
+unfolding line.command
 all_rows = (
   (λ ts c us e. inr (inr (inr (inl (inr (inr (inr (inr (inr (inl (tt, ts, record { tokens = refl }, (agrees-abort {n = 0}).sound tt ts c us e))))))))))),
   (
@@ -154,8 +155,8 @@ all_rows = (
   ),
 )
 
-pub command-sound : (ts : Tokens) (c : Command) (us : Tokens) → spec.command ts ≡ Some (c, us) → grammar.command ts c us
-unfolding spec.command from_word keyword_of grammar.command
+pub command-sound : (ts : Tokens) (c : Command) (us : Tokens) → spec.command ts ≡ Some (c, us) → line.command ts c us
+unfolding spec.command from_word keyword_of line.command
 command-sound (token.Word w ∷ ts) c us e = by_rows leading_words all_rows w ts c us e
 command-sound (token.Backslash letters ∷ ts) c us e = inr (inr (inr (inr (inr (inr ((agrees-backslash_line {n = 0} letters).sound tt ts c us e))))))
 command-sound [] c us e = cc
@@ -199,7 +200,7 @@ statement-begins (token.Text x ∷ ts) e = cc
 statement-begins (token.Param x ∷ ts) e = cc
 statement-begins (token.Backslash x ∷ ts) e = cc
 
-prepared-complete : (ts : Tokens) (c : Command) → prepared_command ts c [] → spec.command ts ≡ Some (c, [])
+prepared-complete : (ts : Tokens) (c : Command) → line.prepared_command ts c [] → spec.command ts ≡ Some (c, [])
 unfolding spec.command from_word keyword_of
 prepared-complete ts c (inl here) = behind_word (codes "prepare") (λ n. agrees-prepare {n = n}) (λ vs. refl) ts c here
 prepared-complete ts c (inr (inl here)) = behind_word (codes "execute") (λ n. agrees-execute {n = n}) (λ vs. refl) ts c here
@@ -207,14 +208,14 @@ prepared-complete ts c (inr (inr (inl here))) = behind_word (codes "explain") (�
 prepared-complete ts c (inr (inr (inr (inl here)))) = behind_word (codes "deallocate") (λ n. agrees-deallocate {n = n}) (λ vs. refl) ts c here
 prepared-complete ts c (inr (inr (inr (inr here)))) = behind_word (codes "discard") (λ n. agrees-discard {n = n}) (λ vs. refl) ts c here
 
-cursor-complete : (ts : Tokens) (c : Command) → cursor_command ts c [] → spec.command ts ≡ Some (c, [])
+cursor-complete : (ts : Tokens) (c : Command) → line.cursor_command ts c [] → spec.command ts ≡ Some (c, [])
 unfolding spec.command from_word keyword_of
 cursor-complete ts c (inl here) = behind_word (codes "declare") (λ n. agrees-declare {n = n}) (λ vs. refl) ts c here
 cursor-complete ts c (inr (inl here)) = behind_word (codes "fetch") (λ n. agrees-fetch {n = n}) (λ vs. refl) ts c here
 cursor-complete ts c (inr (inr (inl here))) = behind_word (codes "move") (λ n. agrees-move_cursor {n = n}) (λ vs. refl) ts c here
 cursor-complete ts c (inr (inr (inr here))) = behind_word (codes "close") (λ n. agrees-close {n = n}) (λ vs. refl) ts c here
 
-block-complete : (ts : Tokens) (c : Command) → block_command ts c [] → spec.command ts ≡ Some (c, [])
+block-complete : (ts : Tokens) (c : Command) → line.block_command ts c [] → spec.command ts ≡ Some (c, [])
 unfolding spec.command from_word keyword_of
 block-complete ts c (inl here) = behind_word (codes "begin") (λ n. agrees-begin {n = n}) (λ vs. refl) ts c here
 block-complete ts c (inr (inl here)) = behind_word (codes "start") (λ n. agrees-start {n = n}) (λ vs. refl) ts c here
@@ -225,13 +226,13 @@ block-complete ts c (inr (inr (inr (inr (inr (inl here)))))) = behind_word (code
 block-complete ts c (inr (inr (inr (inr (inr (inr (inl here))))))) = behind_word (codes "savepoint") (λ n. agrees-savepoint {n = n}) (λ vs. refl) ts c here
 block-complete ts c (inr (inr (inr (inr (inr (inr (inr here))))))) = behind_word (codes "release") (λ n. agrees-release {n = n}) (λ vs. refl) ts c here
 
-setting-complete : (ts : Tokens) (c : Command) → setting_command ts c [] → spec.command ts ≡ Some (c, [])
+setting-complete : (ts : Tokens) (c : Command) → line.setting_command ts c [] → spec.command ts ≡ Some (c, [])
 unfolding spec.command from_word keyword_of
 setting-complete ts c (inl here) = behind_word (codes "set") (λ n. agrees-set {n = n}) (λ vs. refl) ts c here
 setting-complete ts c (inr (inl here)) = behind_word (codes "reset") (λ n. agrees-reset {n = n}) (λ vs. refl) ts c here
 setting-complete ts c (inr (inr here)) = behind_word (codes "show") (λ n. agrees-show {n = n}) (λ vs. refl) ts c here
 
-catalog-complete : (ts : Tokens) (c : Command) → catalog_command ts c [] → spec.command ts ≡ Some (c, [])
+catalog-complete : (ts : Tokens) (c : Command) → line.catalog_command ts c [] → spec.command ts ≡ Some (c, [])
 unfolding spec.command from_word keyword_of
 catalog-complete ts c (inl here) = behind_word (codes "create") (λ n. agrees-create {n = n}) (λ vs. refl) ts c here
 catalog-complete ts c (inr (inl here)) = behind_word (codes "drop") (λ n. agrees-drop_object {n = n}) (λ vs. refl) ts c here
@@ -239,14 +240,14 @@ catalog-complete ts c (inr (inr (inl here))) = behind_word (codes "truncate") (�
 catalog-complete ts c (inr (inr (inr (inl here)))) = behind_word (codes "analyze") (λ n. agrees-analyze {n = n}) (λ vs. refl) ts c here
 catalog-complete ts c (inr (inr (inr (inr here)))) = behind_word (codes "alter") (λ n. agrees-alter {n = n}) (λ vs. refl) ts c here
 
-line-complete : (ts : Tokens) (c : Command) → grammar.backslash_line ts c [] → spec.command ts ≡ Some (c, [])
-unfolding grammar.backslash_line spec.command
+line-complete : (ts : Tokens) (c : Command) → line.backslash_line ts c [] → spec.command ts ≡ Some (c, [])
+unfolding line.backslash_line spec.command
 line-complete ts c here = by here
   where
     at : (letters : Text) (behind : Tokens) → TakesToken (token.Backslash letters) ts behind → spec.command ts ≡ Some (c, [])
-    at letters behind same = ap spec.command same.tokens ∙ (agrees-backslash_line {n = length behind} letters).complete behind c [] (omega arith) (subst (λ vs. grammar.backslash_line vs c []) same.tokens here) refl
+    at letters behind same = ap spec.command same.tokens ∙ (agrees-backslash_line {n = length behind} letters).complete behind c [] (omega arith) (subst (λ vs. line.backslash_line vs c []) same.tokens here) refl
 
-    by : grammar.backslash_line ts c [] → spec.command ts ≡ Some (c, [])
+    by : line.backslash_line ts c [] → spec.command ts ≡ Some (c, [])
     by (inl (u, behind, same, rest)) = at (codes "prepared") behind same
     by (inr (inl (u, behind, same, rest))) = at (codes "cursors") behind same
     by (inr (inr (inl (u, behind, same, rest)))) = at (codes "sync") behind same
@@ -255,8 +256,8 @@ line-complete ts c here = by here
     by (inr (inr (inr (inr (inr (inl (u, behind, same, rest))))))) = at (codes "run") behind same
     by (inr (inr (inr (inr (inr (inr (u, behind, same, rest))))))) = at (codes "end") behind same
 
-command-complete : (ts : Tokens) (c : Command) → grammar.command ts c [] → spec.command ts ≡ Some (c, [])
-unfolding grammar.command spec.command
+command-complete : (ts : Tokens) (c : Command) → line.command ts c [] → spec.command ts ≡ Some (c, [])
+unfolding line.command spec.command
 command-complete ts c (inl here) =
     let agrees = agrees-statement_command {n = length ts} in
     statement-begins ts (agrees.starts ts c [] here refl) ∙ agrees.complete ts c [] (omega arith) here refl
@@ -276,11 +277,11 @@ whole-read None c e = cc
 
 pub spelt-when-read : (ts : Tokens) (c : Command) → command_of ts ≡ Some c → SpellsAll ts c
 unfolding command_of
-spelt-when-read ts c e = command-sound ts c [] (whole-read (spec.command ts) c e)
+spelt-when-read ts c e = case-command ts c [] (command-sound ts c [] (whole-read (spec.command ts) c e))
 
 pub read-when-spelt : (ts : Tokens) (c : Command) → SpellsAll ts c → command_of ts ≡ Some c
 unfolding command_of
-read-when-spelt ts c spelt = ap whole (command-complete ts c spelt)
+read-when-spelt ts c spelt = ap whole (command-complete ts c (line-command spelt))
 
 -- ---- commands and refusals
 

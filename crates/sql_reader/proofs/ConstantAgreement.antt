@@ -14,10 +14,10 @@ use Rattle.sql_expr.specs.Lines.{Line, gives}
 use Rattle.sql_expr.specs.Grammar.{literal as literal_line}
 use Rattle.sql_expr.specs.Lines as lines
 use Rattle.sql_reader_catalog.specs.Constants as spec
-use Rattle.sql_reader.specs.Grammar as grammar
 use Rattle.sql_expr.proofs.Heads.{Barred, Head, bars, is}
 use Rattle.sql_expr.proofs.Agreement.{Agrees, Stands, nothing, agrees-pure, agrees-bind, agrees-same, agrees-fewer, agrees-expect_sign, agrees-one, agrees-taken}
 use Rattle.sql_expr.proofs.TokenKinds.{stands-number, literal-there, literal-back}
+use Rattle.sql_reader.proofs.CommandLines as line
 use Rattle.sql_reader.proofs.OptionalAgreement.{agrees-read}
 
 -- a line with what it gives
@@ -105,20 +105,20 @@ same-constant (token.Backslash d ∷ ts) = refl
 abbrev pub constant_heads : List Head
 constant_heads = literal_heads ++ Head.sign sign.Minus ∷ []
 
-there : (ts : Tokens) (l : Literal) (us : Tokens) → (lines.◌or◌ (lines.◌>>=◌ literal_line (λ l. gives l)) (lines.◌<$>◌ literal.Number grammar.negative)) ts l us → grammar.constant ts l us
-unfolding grammar.constant
+there : (ts : Tokens) (l : Literal) (us : Tokens) → (lines.◌or◌ (lines.◌>>=◌ literal_line (λ l. gives l)) (lines.◌<$>◌ literal.Number line.negative)) ts l us → line.constant ts l us
+unfolding line.constant
 there ts l us (inl alone) = inl (given literal_line ts l us alone)
 there ts l us (inr signed) = inr signed
 
-back : (ts : Tokens) (l : Literal) (us : Tokens) → grammar.constant ts l us → (lines.◌or◌ (lines.◌>>=◌ literal_line (λ l. gives l)) (lines.◌<$>◌ literal.Number grammar.negative)) ts l us
-unfolding grammar.constant
+back : (ts : Tokens) (l : Literal) (us : Tokens) → line.constant ts l us → (lines.◌or◌ (lines.◌>>=◌ literal_line (λ l. gives l)) (lines.◌<$>◌ literal.Number line.negative)) ts l us
+unfolding line.constant
 back ts l us (inl alone) = inl (giving literal_line ts l us alone)
 back ts l us (inr signed) = inr signed
 
 module _ {S : Type 0} {n : ℕ} where
-  agrees-negative : Agrees S n negative grammar.negative 2 (Head.sign sign.Minus ∷ []) nothing
+  agrees-negative : Agrees S n negative line.negative 2 (Head.sign sign.Minus ∷ []) nothing
   agrees-negative = agrees-bind (agrees-expect_sign sign.Minus) (λ u. agrees-bind (agrees-one stands-number) (λ digits. agrees-pure (record { negative = true; digits = digits }) nothing) refl) refl
 
-  pub agrees-constant : Agrees S n spec.constant grammar.constant 1 constant_heads nothing
+  pub agrees-constant : Agrees S n spec.constant line.constant 1 constant_heads nothing
   agrees-constant = agrees-read (λ ts. sym (same-constant ts)) (agrees-same there back (agrees-fewer 1 (omega arith)
       (agrees-taken literal_or_negative (omega arith) stands-literal (λ l. agrees-pure {n = n} l nothing) (agrees-bind agrees-negative (λ number. agrees-pure (literal.Number number) nothing) refl) refl)))

@@ -11,10 +11,10 @@ use Rattle.sql_expr.specs.Lines.{Line, gives, word as a_word, said}
 use Rattle.sql_expr.specs.Lines as lines
 use Rattle.sql_reader_query.specs.Names.{optional_names}
 use Rattle.sql_reader_catalog.specs.Creation as spec
-use Rattle.sql_reader.specs.Grammar as grammar
 use Rattle.sql_expr.proofs.Heads.{Barred, Head, all_avoid}
 use Rattle.sql_expr.proofs.Agreement.{Agrees, nothing, bar_word, agrees-pure, agrees-bind, agrees-same, agrees-wider, agrees-fewer, agrees-word, agrees-sign, agrees-expect_word}
 use Rattle.sql_expr.proofs.ExpressionAgreement.{agrees-name}
+use Rattle.sql_reader.proofs.CommandLines as line
 use Rattle.sql_reader.proofs.OptionalAgreement.{also, agrees-read}
 use Rattle.sql_reader.proofs.QueryAgreement.{select_tail, agrees-select}
 use Rattle.sql_reader.proofs.NameAgreement.{agrees-relation, agrees-enclosed_names, agrees-parenthesized_names}
@@ -82,8 +82,8 @@ abbrev opened : Barred
 opened = record { words = []; signs = sign.Dot ∷ sign.LeftParen ∷ []; names = false; numbers = false; strings = false; params = false }
 
 module _ {n : ℕ} where
-  agrees-index : (unique : Bool) → Agrees (Unit {0}) n (spec.index unique) (grammar.index unique) 1 (Head.name ∷ []) nothing
-  unfolding spec.index grammar.index
+  agrees-index : (unique : Bool) → Agrees (Unit {0}) n (spec.index unique) (line.index unique) 1 (Head.name ∷ []) nothing
+  unfolding spec.index line.index
   agrees-index unique = agrees-fewer 1 (omega arith) (agrees-bind agrees-name (λ name. agrees-bind (agrees-expect_word (codes "on")) (λ u. agrees-bind agrees-relation (λ table.
       agrees-bind agrees-parenthesized_names (λ columns. agrees-pure (record { name = name; unique = unique; table = table; columns = columns }) nothing) refl) refl) refl) refl)
 
@@ -91,37 +91,37 @@ module _ {n : ℕ} where
   unfolding spec.or_replace
   agrees-or_replace = agrees-word (codes "or") (agrees-bind (agrees-expect_word (codes "replace")) (λ u. agrees-pure true create_words) refl) (agrees-pure false create_words) refl
 
-  pub agrees-optional_names : Agrees (Unit {0}) n optional_names (lines.◌or◌ grammar.parenthesized_names (gives [])) 0 (Head.sign sign.LeftParen ∷ Head.others opened ∷ []) opened
-  unfolding optional_names grammar.parenthesized_names
+  pub agrees-optional_names : Agrees (Unit {0}) n optional_names (lines.◌or◌ line.parenthesized_names (gives [])) 0 (Head.sign sign.LeftParen ∷ Head.others opened ∷ []) opened
+  unfolding optional_names line.parenthesized_names
   agrees-optional_names = agrees-sign sign.LeftParen (agrees-wider opened refl agrees-enclosed_names) (agrees-pure [] opened) refl
 
 abbrev indexed : Bool → Line Command
-indexed unique = lines.◌>>◌ (a_word (codes "index")) (lines.◌<$>◌ command.CreateIndex (grammar.index unique))
+indexed unique = lines.◌>>◌ (a_word (codes "index")) (lines.◌<$>◌ command.CreateIndex (line.index unique))
 
 -- the tokens that could go on with it
 abbrev pub create_tail : Barred
 create_tail = also (codes "on" ∷ []) [] select_tail
 
 module _ {n : ℕ} where
-  agrees-view : Agrees (Unit {0}) n spec.view grammar.view 1 view_heads create_tail
-  unfolding spec.view grammar.view
+  agrees-view : Agrees (Unit {0}) n spec.view line.view 1 view_heads create_tail
+  unfolding spec.view line.view
   agrees-view = agrees-fewer 1 (omega arith) (agrees-bind agrees-or_replace (λ replace. agrees-bind (agrees-expect_word (codes "view")) (λ u. agrees-bind agrees-relation (λ name.
       agrees-bind agrees-optional_names (λ columns. agrees-bind (agrees-expect_word (codes "as")) (λ v. agrees-bind agrees-select (λ selected.
       agrees-pure (record { name = name; replace = replace; columns = columns; query = statement.ViewSelect selected }) create_tail) refl) refl) refl) refl) refl) refl)
 
-  agrees-indexed : (unique : Bool) → Agrees (Unit {0}) n (◌>>=◌ (spec.index unique) (λ index. pure (command.CreateIndex index))) (lines.◌<$>◌ command.CreateIndex (grammar.index unique)) 1 (Head.name ∷ []) create_tail
+  agrees-indexed : (unique : Bool) → Agrees (Unit {0}) n (◌>>=◌ (spec.index unique) (λ index. pure (command.CreateIndex index))) (lines.◌<$>◌ command.CreateIndex (line.index unique)) 1 (Head.name ∷ []) create_tail
   agrees-indexed unique = agrees-bind (agrees-index unique) (λ index. agrees-pure (command.CreateIndex index) create_tail) refl
 
-  agrees-create_view : Agrees (Unit {0}) n (◌>>=◌ spec.view (λ view. pure (command.CreateView view))) (lines.◌<$>◌ command.CreateView grammar.view) 1 view_heads create_tail
+  agrees-create_view : Agrees (Unit {0}) n (◌>>=◌ spec.view (λ view. pure (command.CreateView view))) (lines.◌<$>◌ command.CreateView line.view) 1 view_heads create_tail
   agrees-create_view = agrees-bind agrees-view (λ view. agrees-pure (command.CreateView view) create_tail) refl
 
-  pub agrees-create : Agrees (Unit {0}) n spec.create grammar.create 1
+  pub agrees-create : Agrees (Unit {0}) n spec.create line.create 1
       (Head.word (codes "schema") ∷ Head.word (codes "table") ∷ Head.word (codes "temp") ∷ Head.word (codes "temporary") ∷ Head.word (codes "unique") ∷ Head.word (codes "index") ∷ view_heads) create_tail
-  unfolding spec.create grammar.create
+  unfolding spec.create line.create
   agrees-create = agrees-fewer 1 (omega arith)
       (agrees-word (codes "schema") (agrees-bind agrees-name (λ made. agrees-pure (command.Schema (schema.Create made)) create_tail) refl)
       (agrees-word (codes "table") (agrees-bind agrees-table (λ table. agrees-pure (command.CreateTable table) create_tail) refl)
       (agrees-temp (agrees-bind (agrees-expect_word (codes "table")) (λ u. agrees-bind agrees-temp_table (λ table. agrees-pure (command.CreateTempTable table) create_tail) refl) refl)
-      (agrees-same (unique-there indexed (lines.◌<$>◌ command.CreateView grammar.view)) (unique-back indexed (lines.◌<$>◌ command.CreateView grammar.view))
+      (agrees-same (unique-there indexed (lines.◌<$>◌ command.CreateView line.view)) (unique-back indexed (lines.◌<$>◌ command.CreateView line.view))
       (agrees-word (codes "unique") (agrees-bind (agrees-expect_word (codes "index")) (λ u. agrees-indexed true) refl)
       (agrees-word (codes "index") (agrees-indexed false) agrees-create_view refl) refl)) refl refl) refl) refl)

@@ -21,6 +21,7 @@ use Rattle.sql_reader.specs.Grammar as grammar
 use Rattle.sql_expr.proofs.Heads.{Barred, Head, bars, clear, begins, begins-clear, clear-begins, begins-left, begins-right, not-true}
 use Rattle.sql_expr.proofs.Agreement.{Agrees, one, stands_for, taken-nothing, bind_some, nothing, bar_word, same_value, same_rest, same_read, read_then, word-seen, sees-no-word, taken-cases, agrees-pure, agrees-bind, agrees-same, agrees-fewer, agrees-word, agrees-expect_word, taking, two-tokens}
 use Rattle.sql_expr.proofs.ExpressionAgreement.{agrees-name}
+use Rattle.sql_reader.proofs.CommandLines as line
 use Rattle.sql_reader.proofs.QueryAgreement.{select_tail, agrees-select}
 use Rattle.sql_reader.proofs.KeywordAgreement.{agrees-map}
 
@@ -257,7 +258,7 @@ abbrev declared : Text → CursorOptions → Bool → Select → Command
 declared cursor options held query = command.Declare (record { name = cursor; options = options; hold = held; query = statement.Select query })
 
 abbrev of_query : Text → CursorOptions → Bool → Line Command
-of_query cursor options held = lines.◌<$>◌ (declared cursor options held) grammar.select
+of_query cursor options held = lines.◌<$>◌ (declared cursor options held) line.select
 
 -- the line in the parts in which it is read
 abbrev ordered : Line Command
@@ -289,12 +290,12 @@ module _ {n : ℕ} where
   unfolding spec.cursor_for
   agrees-cursor_for = agrees-bind (agrees-expect_word (codes "cursor")) (λ u. agrees-bind agrees-hold (λ held. agrees-bind (agrees-expect_word (codes "for")) (λ v. agrees-pure held nothing) refl) refl) refl
 
-  pub agrees-declare : Agrees (Unit {0}) n spec.declare grammar.declare 1 (Head.name ∷ []) select_tail
-  unfolding spec.declare grammar.declare
+  pub agrees-declare : Agrees (Unit {0}) n spec.declare line.declare 1 (Head.name ∷ []) select_tail
+  unfolding spec.declare line.declare
   agrees-declare = agrees-same there back (agrees-fewer 1 (omega arith) (agrees-bind agrees-name (λ cursor. agrees-bind agrees-options (λ options.
       agrees-bind agrees-cursor_for (λ held. agrees-map (declared cursor options held) agrees-select) refl) refl) refl))
     where
-      there : (ts : Tokens) (c : Command) (us : Tokens) → ordered ts c us → grammar.declare ts c us
+      there : (ts : Tokens) (c : Command) (us : Tokens) → ordered ts c us → line.declare ts c us
       there ts c us (cursor, a, name, (options, b, found, (held, d, (u, x, cursor_word, (h, y, hold, (v, z, for_word, same))), query))) = (
         cursor,
         a,
@@ -322,6 +323,6 @@ module _ {n : ℕ} where
         ),
       )
 
-      back : (ts : Tokens) (c : Command) (us : Tokens) → grammar.declare ts c us → ordered ts c us
+      back : (ts : Tokens) (c : Command) (us : Tokens) → line.declare ts c us → ordered ts c us
       back ts c us (cursor, a, name, (options, b, found, (u, x, cursor_word, (h, y, hold, (v, z, for_word, query))))) =
           (cursor, a, name, (options, b, found, (h, z, (u, x, cursor_word, (h, y, hold, (v, z, for_word, (refl, refl)))), query)))

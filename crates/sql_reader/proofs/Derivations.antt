@@ -1,5 +1,5 @@
--- Ten texts, each with its derivation: the lines and the cases of the grammar by which its tokens spell the command.
-use Rattle.std.proofs.Common.{◌≡◌, inl, inr, ◌+◌, true, false, List, [], ◌∷◌, length, drop, Some, None, codes, refl, sym, ap, subst, arith}
+-- Ten texts, each with its derivation: the cases of the grammar by which its tokens spell the command.
+use Rattle.std.proofs.Common.{◌≡◌, inl, inr, true, false, List, [], ◌∷◌, length, drop, Some, None, codes, refl, sym, ap, subst, arith}
 use Prim.Native.String.{String}
 use Rattle.q_base.specs.declared.settings.SetValue.TheVariants as value
 use Rattle.sql_tokens.specs.declared.token.Token.{Token}
@@ -16,13 +16,13 @@ use Rattle.sql_tree.specs.declared.select.OutputItem.{OutputItem}
 use Rattle.sql_tree.specs.declared.select.OutputItem.TheVariants as output
 use Rattle.sql_tree.specs.declared.statement.Statement.TheVariants as statement
 use Rattle.sql_expr.specs.Names.{is_reserved, name_of}
-use Rattle.sql_expr.specs.Lines.{Text, Tokens, TakesToken, name, key, any, list, before}
+use Rattle.sql_expr.specs.Lines.{Text, Tokens, TakesToken, name, key, before}
 use Rattle.sql_expr.specs.Lines as lines
 use Rattle.sql_expr.specs.Grammar.{Rule, Spells, expression, qualified, column}
 use Rattle.sql_expr.proofs.TokenKinds.{stands-name}
 use Rattle.sql_expr.proofs.ExpressionCases.{name-takes}
 use Rattle.sql_reader.specs.Examples.{number, column as column_named, relation, item, selected, computed, altered, plain}
-use Rattle.sql_reader.specs.Grammar.{SpellsAll}
+use Rattle.sql_reader.specs.Grammar.{SpellsAll, Spells as step}
 use Rattle.sql_reader.specs.Grammar as grammar
 
 -- ---- tokens, names, numbers
@@ -37,9 +37,9 @@ named : (n : String) (us : Tokens) → name_of (w n) ≡ Some (codes n) → name
 named n us free = stands-name.there (w n ∷ us) (codes n) us (w n, next, free)
 
 -- a name alone, of a relation and of a column
-a-relation : (n : String) (us : Tokens) → name_of (w n) ≡ Some (codes n) → grammar.relation (w n ∷ us) (relation (codes n)) us
-unfolding qualified grammar.relation
-a-relation n us free = ((None, codes n), us, inr (codes n, us, named n us free, (refl, refl)), (refl, refl))
+a-relation : (n : String) (us : Tokens) → name_of (w n) ≡ Some (codes n) → grammar.Spells grammar.Rule.relation (w n ∷ us) (relation (codes n)) us
+unfolding qualified
+a-relation n us free = step.related (inr (codes n, us, named n us free, (refl, refl)))
 
 a-column : (n : String) (us : Tokens) → name_of (w n) ≡ Some (codes n) → Spells Rule.primary (w n ∷ us) (column_named (codes n)) us
 unfolding qualified column
@@ -68,27 +68,15 @@ expression-of spelt = conjunction-of (Spells.conjoined (Spells.last_negation spe
 
 -- ---- a SELECT of one output that ends with its FROM
 
-a-grouping : grammar.grouping [] (record { keys = []; having = None }) []
-unfolding grammar.grouping
-a-grouping = ([], [], inr (refl, refl), (None, [], inr (refl, refl), (refl, refl)))
-
-some-limits : grammar.limits [] (record { limit = None; offset = None }) []
-unfolding grammar.limits grammar.limit grammar.offset
-some-limits = inl (None, [], inr (refl, refl), (None, [], inr (refl, refl), (refl, refl)))
-
-a-core : (ts us : Tokens) (given : OutputItem) (from : List FromChain) → grammar.output ts given us → any (lines.◌>>◌ (key "from") (list grammar.chain)) us from []
-    → grammar.core ts (record { distinct = false; outputs = given ∷ []; from = from; condition = None }) []
-unfolding grammar.core grammar.distinct
-a-core ts us given from front chains = (false, ts, inr (inr (refl, refl)), (given ∷ [], us, (given, us, front, ([], us, refl, (refl, refl))), (from, [], chains, (None, [], inr (refl, refl), (refl, refl)))))
-
-a-select : (ts us : Tokens) (given : OutputItem) (from : List FromChain) → grammar.output ts given us → any (lines.◌>>◌ (key "from") (list grammar.chain)) us from [] → SpellsAll (w "select" ∷ ts) (selected given from)
-unfolding grammar.command grammar.statement_command grammar.select grammar.selection
-a-select ts us given from front chains =
-    inl (inl (_, [], inl (_, [], (tt, ts, next, (_, [], a-core ts us given from front chains, (_, [], a-grouping, ([], [], inr (refl, refl), (_, [], some-limits, (refl, refl)))))), (refl, refl)), (refl, refl)))
+a-select : (ts us : Tokens) (given : OutputItem) (from : List FromChain) → grammar.Spells grammar.Rule.output ts given us → grammar.Spells grammar.Rule.from us from []
+    → SpellsAll (w "select" ∷ ts) (selected given from)
+unfolding grammar.distinct
+a-select ts us given from front chains = step.select_command (step.selected next (inr (inr (refl, refl))) (step.last front refl) chains
+    (step.no_condition refl refl) (step.ungrouped refl refl) (step.no_having refl refl) (step.unordered refl refl)
+    (step.limit_first (step.no_limit refl refl) (step.no_offset refl refl))) refl
 
 a-computed : (ts : Tokens) (x : Expr) → expression ts x [] → SpellsAll (w "select" ∷ ts) (computed x)
-unfolding grammar.output grammar.alias
-a-computed ts x spelt = a-select ts [] (output.Expr x None) [] (inr (inr (x, [], spelt, (None, [], inr (refl, refl), (refl, refl))))) (inr (refl, refl))
+a-computed ts x spelt = a-select ts [] (output.Expr x None) [] (step.computed spelt (step.no_alias refl refl) refl) (step.no_from refl refl)
 
 -- ---- the tokens of each text (`in_..`), and the derivation
 
@@ -120,34 +108,30 @@ not_of_a_comparison = a-computed _ _ (expression-of (Spells.negated next (negati
     (Spells.compared (membership-of (a-column "a" _ refl)) (inl (tt, _, next, (refl, refl))) (membership-of (a-column "b" _ refl)) refl)) refl))
 
 -- SELECT * FROM a JOIN b ON c CROSS JOIN d
-an-item : (n : String) (us : Tokens) → name_of (w n) ≡ Some (codes n) → grammar.item (w n ∷ us) (item (codes n)) us
-unfolding grammar.item grammar.alias
-an-item n us free = (relation (codes n), us, a-relation n us free, (None, us, inr (refl, refl), (refl, refl)))
+an-item : (n : String) (us : Tokens) → name_of (w n) ≡ Some (codes n) → grammar.Spells grammar.Rule.item (w n ∷ us) (item (codes n)) us
+an-item n us free = step.from_relation (a-relation n us free) (step.no_alias refl refl)
 
 abbrev pub in_chain_of_joins : Tokens
 in_chain_of_joins = w "select" ∷ token.Sign sign.Star ∷ w "from" ∷ w "a" ∷ w "join" ∷ w "b" ∷ w "on" ∷ w "c" ∷ w "cross" ∷ w "join" ∷ w "d" ∷ []
 
 pub chain_of_joins : SpellsAll in_chain_of_joins
     (selected output.All (record { first = item (codes "a"); joins = join.Inner (item (codes "b")) (column_named (codes "c")) ∷ join.Cross (item (codes "d")) ∷ [] } ∷ []))
-unfolding grammar.output grammar.chain grammar.join is_reserved
-chain_of_joins = a-select _ _ output.All _ (inl (tt, _, next, (refl, refl)))
-    (inl (tt, _, next, (_, [], (_, _, an-item "a" _ refl, (_, [], (_, inner, ([], inr (tt, _, next, (tt, _, next, (_, [], an-item "d" _ refl, (refl, refl)))), refl)), (refl, refl))), ([], [], refl, (refl, refl)))))
-  where
-    inner : grammar.join (w "join" ∷ w "b" ∷ w "on" ∷ w "c" ∷ w "cross" ∷ w "join" ∷ w "d" ∷ []) (join.Inner (item (codes "b")) (column_named (codes "c"))) (w "cross" ∷ w "join" ∷ w "d" ∷ [])
-    inner = inl (false, _, inr (refl, refl), (tt, _, next, (_, _, an-item "b" _ refl, (tt, _, next, (_, _, expression-of (negation-of (Spells.only_membership (membership-of (a-column "c" _ refl)))), (refl, refl))))))
+unfolding is_reserved
+chain_of_joins = a-select _ _ output.All _ (step.every_column next refl) (step.from_chains next (step.last (step.chained (an-item "a" _ refl)
+    (step.one_more (step.inner_joined false (inr (refl, refl)) next (an-item "b" _ refl) next (expression-of (negation-of (Spells.only_membership (membership-of (a-column "c" _ refl))))) refl)
+    (step.one_more (step.cross_joined next next (an-item "d" _ refl) refl) (step.no_more refl refl) refl) refl)) refl))
 
 -- ---- a word that may be keyword and name: what follows tells which it is
 
 a-column_def : (n t : String) → name_of (w n) ≡ Some (codes n) → name_of (w t) ≡ Some (codes t)
-    → grammar.column_def false (w n ∷ w t ∷ []) (record { name = codes n; type_name = codes t; nullability = nullability.Unsaid; default = None; keys = [] }) []
-unfolding grammar.column_def
-a-column_def n t free typed = (codes n, w t ∷ [], named n (w t ∷ []) free, (codes t, [], named t [] typed, ([], [], refl, (tt, [], (refl, refl), (refl, refl)))))
+    → grammar.Spells (grammar.Rule.column_def false) (w n ∷ w t ∷ []) (record { name = codes n; type_name = codes t; nullability = nullability.Unsaid; default = None; keys = [] }) []
+a-column_def n t free typed = step.defined _ _ (named n (w t ∷ []) free) (named t [] typed) (step.no_more refl refl) refl refl refl refl
 
-an-addition : (ts us : Tokens) (n : String) → before "column" (lines.◌>>◌ name name) ts tt us → grammar.column_def false us (record { name = codes n; type_name = codes "int"; nullability = nullability.Unsaid; default = None; keys = [] }) []
+an-addition : (ts us : Tokens) (n : String) → before "column" (lines.◌>>◌ name name) ts tt us
+    → grammar.Spells (grammar.Rule.column_def false) us (record { name = codes n; type_name = codes "int"; nullability = nullability.Unsaid; default = None; keys = [] }) []
     → SpellsAll (w "alter" ∷ w "table" ∷ w "t" ∷ w "add" ∷ ts) (altered (codes "t") (plain (codes n)))
-unfolding grammar.command grammar.alter grammar.action is_reserved
-an-addition ts us n word defined =
-    inr (inr (inr (inr (inr (inl (inr (inr (inr (inr (tt, _, next, inr (tt, _, next, (_, _, a-relation "t" _ refl, (_, [], inl (tt, _, next, (tt, us, word, (_, [], defined, (refl, refl)))), (refl, refl))))))))))))))
+unfolding is_reserved
+an-addition ts us n word defined = step.table_altered next next (a-relation "t" _ refl) (step.column_added next word defined refl) refl
 
 -- ALTER TABLE t ADD column int
 abbrev pub in_column_as_name : Tokens
@@ -177,8 +161,8 @@ abbrev pub in_savepoint_as_name : Tokens
 in_savepoint_as_name = w "release" ∷ w "savepoint" ∷ []
 
 pub savepoint_as_name : SpellsAll in_savepoint_as_name (command.Release (codes "savepoint"))
-unfolding grammar.command is_reserved
-savepoint_as_name = inr (inr (inr (inl (inr (inr (inr (inr (inr (inr (inr (tt, _, next, (codes "savepoint", [], (tt, _, inr (refl, λ n us spelt. no-name n us spelt), named "savepoint" [] refl), (refl, refl)))))))))))))
+unfolding is_reserved
+savepoint_as_name = step.released next (tt, _, inr (refl, λ n us spelt. no-name n us spelt), named "savepoint" [] refl) refl
   where
     no-name : (n : Text) (us : Tokens) → ¬ (lines.◌>>◌ (key "savepoint") name) (w "savepoint" ∷ []) n us
     no-name n us (u, a, word, spelt) =
@@ -191,28 +175,9 @@ abbrev pub in_local_as_name : Tokens
 in_local_as_name = w "set" ∷ w "local" ∷ token.Sign sign.Equal ∷ token.Number (codes "1") ∷ []
 
 pub local_as_name : SpellsAll in_local_as_name (command.Set (record { name = codes "local"; local = false; value = value.List (record { text = codes "1"; number = true } ∷ []) }))
-unfolding grammar.command grammar.set grammar.setting grammar.numeral is_reserved
-local_as_name = inr (inr (inr (inr (inl (inl (
-  tt,
-  _,
-  next,
-  (
-    false,
-    _,
-    inr (inr (tt, _, (refl, λ n us spelt. no-scope n us spelt), (refl, refl))),
-    (
-      codes "local",
-      _,
-      named "local" _ refl,
-      (
-        tt,
-        _,
-        inr next,
-        (_, [], inr (_, [], (_, [], inr (_, [], (false, _, inr (refl, refl), (codes "1", [], next, (refl, refl))), (refl, refl)), ([], [], refl, (refl, refl))), (refl, refl)), (refl, refl)),
-      ),
-    ),
-  ),
-))))))
+unfolding is_reserved
+local_as_name = step.setting_set _ _ next (inr (inr (tt, _, (refl, λ n us spelt. no-scope n us spelt), (refl, refl)))) (named "local" _ refl) (inr next)
+    (step.set_to_list (step.last (step.number_setting (step.unsigned next refl) refl) refl) refl) refl
   where
     no-name-of-sign : (n : Text) (us : Tokens) → ¬ name (token.Sign sign.Equal ∷ token.Number (codes "1") ∷ []) n us
     no-name-of-sign n us (inl (bare, free)) = let same = bare.tokens in cc
@@ -229,8 +194,8 @@ abbrev pub in_prepare_as_name : Tokens
 in_prepare_as_name = w "deallocate" ∷ w "prepare" ∷ []
 
 pub prepare_as_name : SpellsAll in_prepare_as_name (command.Deallocate (codes "prepare"))
-unfolding grammar.command grammar.deallocate is_reserved
-prepare_as_name = inr (inl (inr (inr (inr (inl (tt, _, next, (tt, _, inr (refl, λ c us spelt. no-target c us spelt), inr (codes "prepare", [], named "prepare" [] refl, (refl, refl)))))))))
+unfolding is_reserved
+prepare_as_name = step.deallocating _ next (inr (refl, λ c us spelt. no-target c us spelt)) (inr (codes "prepare", [], named "prepare" [] refl, (refl, refl)))
   where
     no-target : (c : _) (us : Tokens) → ¬ (lines.◌>>◌ (key "prepare") grammar.deallocated) (w "prepare" ∷ []) c us
     no-target c us (u, a, word, inl (v, b, all, end)) =
@@ -248,18 +213,9 @@ in_current_as_column = w "delete" ∷ w "from" ∷ w "t" ∷ w "where" ∷ w "cu
 
 pub current_as_column : SpellsAll in_current_as_column
     (command.Statement (statement.Delete (record { table = relation (codes "t"); condition = Some (e.Comparison comparison.Equal (column_named (codes "current")) (number false (codes "1"))); returning = [] })))
-unfolding grammar.command grammar.statement_command grammar.changed grammar.deleted grammar.searched grammar.returning is_reserved
-current_as_column = inl (inr (
-  _,
-  _,
-  inr (tt, _, next, (tt, _, next, (_, _, a-relation "t" _ refl, (refl, refl)))),
-  inr (
-    tt,
-    _,
-    (refl, λ u us spelt. no-cursor u us spelt),
-    (_, [], (_, [], inl (_, [], (tt, _, next, compared), (refl, refl)), ([], [], inr (refl, refl), (refl, refl))), (refl, refl)),
-  ),
-))
+unfolding is_reserved
+current_as_column = step.searched_command (step.deleted next next (a-relation "t" _ refl) refl) (refl, λ u us spelt. no-cursor u us spelt)
+    (step.conditioned next compared refl) (step.returning_nothing refl refl) refl
   where
     compared : expression (w "current" ∷ token.Sign sign.Equal ∷ token.Number (codes "1") ∷ []) (e.Comparison comparison.Equal (column_named (codes "current")) (number false (codes "1"))) []
     compared = expression-of (negation-of (Spells.compared (membership-of (a-column "current" _ refl)) (inl (tt, _, next, (refl, refl))) (membership-of (a-number _ _)) refl))

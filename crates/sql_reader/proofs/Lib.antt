@@ -1,9 +1,12 @@
 pub mod AlterationAgreement
 pub mod BlockAgreement
+pub mod CatalogCases
 pub mod ChangeAgreement
 pub mod ColumnAgreement
 pub mod ColumnWordAgreement
 pub mod CommandAgreement
+pub mod CommandCases
+pub mod CommandLines
 pub mod ConstantAgreement
 pub mod CreationAgreement
 pub mod CursorAgreement
@@ -21,7 +24,9 @@ pub mod PartAgreement
 pub mod PartLemmas
 pub mod PreparedAgreement
 pub mod QueryAgreement
+pub mod QueryCases
 pub mod RemovalAgreement
+pub mod SessionCases
 pub mod SettingAgreement
 pub mod StatementAgreement
 pub mod TableAgreement

@@ -14,10 +14,10 @@ use Rattle.sql_expr.specs.Literals.{digits_of, param_of}
 use Rattle.sql_expr.specs.Lines.{Line, gives, word as a_word, mark, number, parameter, TakesToken}
 use Rattle.sql_expr.specs.Lines as lines
 use Rattle.sql_reader_query.specs.Limits as spec
-use Rattle.sql_reader.specs.Grammar as grammar
 use Rattle.sql_expr.proofs.Heads.{Barred, Head, bars, is, all_avoid}
 use Rattle.sql_expr.proofs.Agreement.{Agrees, Stands, nothing, tests-sign, bar_word, agrees-pure, agrees-bind, agrees-same, agrees-fewer, agrees-word, agrees-taken, agrees-one, agrees-test, taking, beginning}
 use Rattle.sql_expr.proofs.TokenKinds.{stands-number}
+use Rattle.sql_reader.proofs.CommandLines as line
 use Rattle.sql_reader.proofs.OptionalAgreement.{agrees-read, agrees-maybe}
 
 -- ---- tokens that are parameters
@@ -57,13 +57,13 @@ agrees-signed negative = agrees-bind (agrees-one stands-number) (λ digits. agre
 abbrev factored_numeral : Line Numeral
 factored_numeral = lines.◌or◌ (lines.◌>>◌ (mark sign.Minus) (signed_line true)) (signed_line false)
 
-numeral-there : (ts : Tokens) (x : Numeral) (us : Tokens) → factored_numeral ts x us → grammar.numeral ts x us
-unfolding grammar.numeral
+numeral-there : (ts : Tokens) (x : Numeral) (us : Tokens) → factored_numeral ts x us → line.numeral ts x us
+unfolding line.numeral
 numeral-there ts x us (inl (u, middle, minus, spelt)) = (true, middle, inl (u, middle, minus, (refl, refl)), spelt)
 numeral-there ts x us (inr spelt) = (false, ts, inr (refl, refl), spelt)
 
-numeral-back : (ts : Tokens) (x : Numeral) (us : Tokens) → grammar.numeral ts x us → factored_numeral ts x us
-unfolding grammar.numeral
+numeral-back : (ts : Tokens) (x : Numeral) (us : Tokens) → line.numeral ts x us → factored_numeral ts x us
+unfolding line.numeral
 numeral-back ts x us (b, middle, inl (u, behind_minus, minus, same), spelt) =
     inl (u, behind_minus, minus, subst (λ c. signed_line c behind_minus x us) same.0 (subst (λ vs. signed_line b vs x us) same.1 spelt))
 numeral-back ts x us (b, middle, inr same, spelt) = inr (subst (λ c. signed_line c ts x us) same.0 (subst (λ vs. signed_line b vs x us) same.1 spelt))
@@ -73,15 +73,15 @@ count_heads = Head.word (codes "null") ∷ Head.param ∷ Head.sign sign.Minus �
 
 -- ALL | count
 abbrev limit_count : Line RowCount
-limit_count = lines.◌or◌ (lines.◌>>◌ (a_word (codes "all")) (gives Null)) grammar.count
+limit_count = lines.◌or◌ (lines.◌>>◌ (a_word (codes "all")) (gives Null)) line.count
 
 module _ {n : ℕ} where
-  pub agrees-numeral : Agrees (Unit {0}) n spec_literals.numeral grammar.numeral 1 (Head.sign sign.Minus ∷ Head.number ∷ []) nothing
+  pub agrees-numeral : Agrees (Unit {0}) n spec_literals.numeral line.numeral 1 (Head.sign sign.Minus ∷ Head.number ∷ []) nothing
   unfolding spec_literals.numeral
   agrees-numeral = agrees-same numeral-there numeral-back (agrees-test {n = n} signed (omega arith) (tests-sign sign.Minus) (agrees-signed true) (agrees-signed false) refl)
 
-  pub agrees-count : Agrees (Unit {0}) n spec.count grammar.count 1 count_heads nothing
-  unfolding spec.count grammar.count
+  pub agrees-count : Agrees (Unit {0}) n spec.count line.count 1 count_heads nothing
+  unfolding spec.count line.count
   agrees-count = agrees-word (codes "null") (agrees-pure Null nothing)
       (agrees-taken {n = n} spec.param_or_number (omega arith) stands-param (λ digits. agrees-pure (Param digits) nothing) (agrees-bind agrees-numeral (λ x. agrees-pure (Number x) nothing) refl) refl) refl
 
@@ -89,12 +89,12 @@ module _ {n : ℕ} where
   unfolding spec.limit_count
   agrees-limit_count = agrees-word (codes "all") (agrees-pure Null nothing) agrees-count refl
 
-  agrees-limit : (tail : Barred) → all_avoid (bar_word (codes "limit")) (Head.others tail ∷ []) ≡ true → Agrees (Unit {0}) n spec.limit grammar.limit 0 (Head.word (codes "limit") ∷ Head.others tail ∷ []) tail
-  unfolding spec.limit grammar.limit
+  agrees-limit : (tail : Barred) → all_avoid (bar_word (codes "limit")) (Head.others tail ∷ []) ≡ true → Agrees (Unit {0}) n spec.limit line.limit 0 (Head.word (codes "limit") ∷ Head.others tail ∷ []) tail
+  unfolding spec.limit line.limit
   agrees-limit tail apart = agrees-maybe (codes "limit") tail agrees-limit_count refl apart
 
-  agrees-offset : (tail : Barred) → all_avoid (bar_word (codes "offset")) (Head.others tail ∷ []) ≡ true → Agrees (Unit {0}) n spec.offset grammar.offset 0 (Head.word (codes "offset") ∷ Head.others tail ∷ []) tail
-  unfolding spec.offset grammar.offset
+  agrees-offset : (tail : Barred) → all_avoid (bar_word (codes "offset")) (Head.others tail ∷ []) ≡ true → Agrees (Unit {0}) n spec.offset line.offset 0 (Head.word (codes "offset") ∷ Head.others tail ∷ []) tail
+  unfolding spec.offset line.offset
   agrees-offset tail apart = agrees-maybe (codes "offset") tail agrees-count refl apart
 
 -- ---- LIMIT and OFFSET in either order
@@ -142,18 +142,18 @@ same-reading ts = by (sees_word (codes "limit") ts) refl
 
 abbrev factored : Line Limits
 factored =
-    lines.◌or◌ (lines.◌>>◌ (a_word (codes "limit")) (lines.◌>>=◌ limit_count (λ most. lines.◌>>=◌ grammar.offset (λ skipped. gives (record { limit = Some most; offset = skipped })))))
-    (lines.◌or◌ (lines.◌>>◌ (a_word (codes "offset")) (lines.◌>>=◌ (lines.◌<$>◌ Some grammar.count) (λ skipped. lines.◌>>=◌ grammar.limit (λ most. gives (record { limit = most; offset = skipped })))))
+    lines.◌or◌ (lines.◌>>◌ (a_word (codes "limit")) (lines.◌>>=◌ limit_count (λ most. lines.◌>>=◌ line.offset (λ skipped. gives (record { limit = Some most; offset = skipped })))))
+    (lines.◌or◌ (lines.◌>>◌ (a_word (codes "offset")) (lines.◌>>=◌ (lines.◌<$>◌ Some line.count) (λ skipped. lines.◌>>=◌ line.limit (λ most. gives (record { limit = most; offset = skipped })))))
     (gives (record { limit = None; offset = None })))
 
-there : (ts : Tokens) (l : Limits) (us : Tokens) → factored ts l us → grammar.limits ts l us
-unfolding grammar.limits grammar.limit grammar.offset
+there : (ts : Tokens) (l : Limits) (us : Tokens) → factored ts l us → line.limits ts l us
+unfolding line.limits line.limit line.offset
 there ts l us (inl (u, middle, limit, (most, rest, spelt, more))) = inl (Some most, rest, inl (most, rest, (u, middle, limit, spelt), (refl, refl)), more)
 there ts l us (inr (inl (u, middle, offset, (skipped, rest, (x, behind_count, spelt, given), more)))) = inr (skipped, rest, inl (x, behind_count, (u, middle, offset, spelt), given), more)
 there ts l us (inr (inr none)) = inl (None, ts, inr (refl, refl), (None, ts, inr (refl, refl), none))
 
-back : (ts : Tokens) (l : Limits) (us : Tokens) → grammar.limits ts l us → factored ts l us
-unfolding grammar.limits grammar.limit grammar.offset
+back : (ts : Tokens) (l : Limits) (us : Tokens) → line.limits ts l us → factored ts l us
+unfolding line.limits line.limit line.offset
 back ts l us (inl (most, rest, inl (x, behind_count, (u, middle, limit, spelt), given), more)) =
     inl (
       u,
@@ -163,7 +163,7 @@ back ts l us (inl (most, rest, inl (x, behind_count, (u, middle, limit, spelt), 
         x,
         rest,
         subst (λ vs. limit_count middle x vs) (sym given.1) spelt,
-        subst (λ m. (lines.◌>>=◌ grammar.offset (λ skipped. gives (record { limit = m; offset = skipped }))) rest l us) given.0 more,
+        subst (λ m. (lines.◌>>=◌ line.offset (λ skipped. gives (record { limit = m; offset = skipped }))) rest l us) given.0 more,
       ),
     )
 back ts l us (inl (most, rest, inr none, (skipped, end, inl (x, behind_count, (u, middle, offset, spelt), given), final))) =
@@ -178,7 +178,7 @@ back ts l us (inr (skipped, rest, inr none, (most, end, inr none_too, final))) =
 
 pub agrees-limits : {n : ℕ} (tail : Barred) → all_avoid tail (Head.others tail ∷ []) ≡ true
     → all_avoid (bar_word (codes "limit")) (Head.others tail ∷ []) ≡ true → all_avoid (bar_word (codes "offset")) (Head.others tail ∷ []) ≡ true
-    → Agrees (Unit {0}) n spec.limits grammar.limits 0 (Head.word (codes "limit") ∷ Head.word (codes "offset") ∷ Head.others tail ∷ []) tail
+    → Agrees (Unit {0}) n spec.limits line.limits 0 (Head.word (codes "limit") ∷ Head.word (codes "offset") ∷ Head.others tail ∷ []) tail
 agrees-limits {n = n} tail self limit offset = agrees-fewer 0 (omega arith) (agrees-read same-reading (agrees-same there back
     (agrees-word (codes "limit") (agrees-bind agrees-limit_count (λ most. agrees-bind (agrees-offset tail offset) (λ skipped. agrees-pure (record { limit = Some most; offset = skipped }) tail) self) refl)
     (agrees-word (codes "offset")

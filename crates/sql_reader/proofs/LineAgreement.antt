@@ -11,10 +11,10 @@ use Rattle.sql_expr.specs.Lines as lines
 use Rattle.sql_expr.specs.Names as names
 use Rattle.sql_reader_session.specs.Prepared as prepared
 use Rattle.sql_reader_session.specs.Lines as spec
-use Rattle.sql_reader.specs.Grammar as grammar
 use Rattle.sql_expr.proofs.Heads.{clear}
 use Rattle.sql_expr.proofs.Agreement.{Agrees, agrees-pure, agrees-bind, agrees-wider}
 use Rattle.sql_expr.proofs.ExpressionAgreement.{agrees-name}
+use Rattle.sql_reader.proofs.CommandLines as line
 use Rattle.sql_reader.proofs.KeywordAgreement.{agrees-map, anything, begins-anything, agrees-anything}
 use Rattle.sql_reader.proofs.MotionAgreement.{agrees-count}
 use Rattle.sql_reader.proofs.StatementAgreement.{statement_tail}
@@ -25,7 +25,7 @@ backslash_of letters ts u us = TakesToken (token.Backslash letters) ts us
 
 -- the line behind the backslash and its letters
 abbrev pub behind_letters : Text → Line Command
-behind_letters letters ts a us = grammar.backslash_line (token.Backslash letters ∷ ts) a us
+behind_letters letters ts a us = line.backslash_line (token.Backslash letters ∷ ts) a us
 
 -- the letters are these, and what stands behind them is read; or the other is
 pick : (letters w : Text) (p q : Parser Command) (ts : Tokens) (a : Command) (us : Tokens) → cond (bytes_eq letters w) p q ts ≡ Some (a, us) → ((letters ≡ w) × (p ts ≡ Some (a, us))) ⊎ (q ts ≡ Some (a, us))
@@ -43,15 +43,15 @@ module _ (n : ℕ) where
   alone : (c : Command) → Behind (pure c) (gives c)
   alone c = agrees-anything (agrees-pure c statement_tail)
 
-  parse : Behind (command.Parse <$> prepared.prepare_tree) (lines.◌<$>◌ command.Parse grammar.prepare_tree)
+  parse : Behind (command.Parse <$> prepared.prepare_tree) (lines.◌<$>◌ command.Parse line.prepare_tree)
   parse = agrees-anything (agrees-map command.Parse agrees-prepare_tree)
 
-  bind : Behind (command.Bind <$> spec.bind_tree) (lines.◌<$>◌ command.Bind grammar.bind_tree)
-  unfolding spec.bind_tree grammar.bind_tree
+  bind : Behind (command.Bind <$> spec.bind_tree) (lines.◌<$>◌ command.Bind line.bind_tree)
+  unfolding spec.bind_tree line.bind_tree
   bind = agrees-anything (agrees-map command.Bind (agrees-bind agrees-name (λ portal. agrees-map (λ found. record { portal = portal; execute = found }) (agrees-wider statement_tail refl agrees-execute_tree)) refl))
 
-  run : Behind (command.Run <$> spec.run_tree) (lines.◌<$>◌ command.Run grammar.run_tree)
-  unfolding spec.run_tree grammar.run_tree
+  run : Behind (command.Run <$> spec.run_tree) (lines.◌<$>◌ command.Run line.run_tree)
+  unfolding spec.run_tree line.run_tree
   run = agrees-anything (agrees-map command.Run (agrees-bind agrees-name (λ portal. agrees-map (λ rows. record { portal = portal; count = rows }) (agrees-wider statement_tail refl agrees-count)) refl))
 
   end : Behind (command.EndPortal <$> names.name) (lines.◌<$>◌ command.EndPortal lines.name)
@@ -59,7 +59,7 @@ module _ (n : ℕ) where
 
   module _ (letters : Text) where
     line-sound : (ts : Tokens) (a : Command) (us : Tokens) → spec.backslash_line letters ts ≡ Some (a, us) → behind_letters letters ts a us
-    unfolding spec.backslash_line grammar.backslash_line
+    unfolding spec.backslash_line line.backslash_line
     line-sound ts a us read =
         ⊎_elim (λ x. inl (at (codes "prepared") (alone command.ShowPrepared) x)) (λ e.
         ⊎_elim (λ x. inr (inl (at (codes "cursors") (alone command.ShowCursors) x))) (λ e.
@@ -83,7 +83,7 @@ module _ (n : ℕ) where
         (same, subst (λ vs. P vs a us) moved rest)
 
     line-complete : (ts : Tokens) (a : Command) (us : Tokens) → length ts ≤ n → behind_letters letters ts a us → clear statement_tail us ≡ true → spec.backslash_line letters ts ≡ Some (a, us)
-    unfolding spec.backslash_line grammar.backslash_line
+    unfolding spec.backslash_line line.backslash_line
     line-complete ts a us within spelt c = by spelt
       where
         at : {p : Parser Command} {P : Line Command} (w : Text) → spec.backslash_line w ≡ p → Behind p P → lines.◌>>◌ (backslash_of w) P (token.Backslash letters ∷ ts) a us → spec.backslash_line letters ts ≡ Some (a, us)
@@ -101,7 +101,7 @@ module _ (n : ℕ) where
         by (inr (inr (inr (inr (inr (inr here)))))) = at (codes "end") refl end here
 
     line-takes : (ts : Tokens) (a : Command) (us : Tokens) → behind_letters letters ts a us → 0 + length us ≤ length ts
-    unfolding grammar.backslash_line
+    unfolding line.backslash_line
     line-takes ts a us spelt = by spelt
       where
         at : {p : Parser Command} {P : Line Command} (w : Text) → Behind p P → lines.◌>>◌ (backslash_of w) P (token.Backslash letters ∷ ts) a us → 0 + length us ≤ length ts

@@ -28,6 +28,7 @@ use Rattle.sql_expr.proofs.Heads.{Barred, Head, bars, is, clear, begins, begins-
 use Rattle.sql_expr.proofs.Agreement.{Agrees, Stands, one, agrees-unless, nothing, agrees-pure, agrees-bind, agrees-same, agrees-wider, agrees-word, agrees-one, agrees-test, tests-sign, taking}
 use Rattle.sql_expr.proofs.ExpressionAgreement.{agrees-name}
 use Rattle.sql_expr.proofs.TokenKinds.{stands-number}
+use Rattle.sql_reader.proofs.CommandLines as line
 use Rattle.sql_reader.proofs.OptionalAgreement.{agrees-read, agrees-looking}
 use Rattle.sql_reader.proofs.KeywordAgreement.{agrees-map, agrees-required, exactly, agrees-anything, clear-nothing, agrees-either}
 use Rattle.sql_reader.proofs.SettingAgreement.{numeral_heads}
@@ -73,8 +74,8 @@ module _ {n : ℕ} where
       back : (ts : Tokens) (a : ℕ) (us : Tokens) → grammar.unsigned_integer ts a us → lines.◌>>=◌ number (λ digits. exactly (number_of digits)) ts a us
       back ts a us (digits, spelt, value, small) = (digits, us, spelt, (known-number digits a value small, refl))
 
-  pub agrees-integer : Agrees (Unit {0}) n numbers.integer grammar.integer 1 numeral_heads nothing
-  unfolding numbers.integer grammar.integer
+  pub agrees-integer : Agrees (Unit {0}) n numbers.integer line.integer 1 numeral_heads nothing
+  unfolding numbers.integer line.integer
   agrees-integer = agrees-same there back (agrees-test signed_count (omega arith) (tests-sign sign.Minus) (behind_sign true) (behind_sign false) refl)
     where
       signed_count : Bool → Parser ℤ
@@ -86,11 +87,11 @@ module _ {n : ℕ} where
       ordered : Line ℤ
       ordered = lines.◌or◌ (lines.◌>>◌ (mark sign.Minus) (lines.◌>>=◌ grammar.unsigned_integer (λ k. gives (signed true k)))) (lines.◌>>=◌ grammar.unsigned_integer (λ k. gives (signed false k)))
 
-      there : (ts : Tokens) (a : ℤ) (us : Tokens) → ordered ts a us → grammar.integer ts a us
+      there : (ts : Tokens) (a : ℤ) (us : Tokens) → ordered ts a us → line.integer ts a us
       there ts a us (inl negative) = inr negative
       there ts a us (inr positive) = inl positive
 
-      back : (ts : Tokens) (a : ℤ) (us : Tokens) → grammar.integer ts a us → ordered ts a us
+      back : (ts : Tokens) (a : ℤ) (us : Tokens) → line.integer ts a us → ordered ts a us
       back ts a us (inl positive) = inr positive
       back ts a us (inr negative) = inl negative
 
@@ -126,7 +127,7 @@ no-integer (token.Param d ∷ ts) c = refl
 no-integer (token.Backslash l ∷ ts) c = refl
 
 -- an integer comes next
-seen : {B : Type 0} (f : ℤ → B) (ts : Tokens) (b : B) (us : Tokens) → (lines.◌<$>◌ f grammar.integer) ts b us → begins_integer ts ≡ true
+seen : {B : Type 0} (f : ℤ → B) (ts : Tokens) (b : B) (us : Tokens) → (lines.◌<$>◌ f line.integer) ts b us → begins_integer ts ≡ true
 seen f ts b us (a, middle, front, same) = integer-seen ts ((agrees-integer {n = 0}).starts ts a middle front (clear-nothing middle))
 
 -- ---- directions
@@ -137,11 +138,11 @@ directed direction.Next = gives moves.Next
 directed direction.Prior = gives moves.Prior
 directed direction.First = gives moves.First
 directed direction.Last = gives moves.Last
-directed direction.Absolute = lines.◌<$>◌ moves.Absolute grammar.integer
-directed direction.Relative = lines.◌<$>◌ moves.Relative grammar.integer
+directed direction.Absolute = lines.◌<$>◌ moves.Absolute line.integer
+directed direction.Relative = lines.◌<$>◌ moves.Relative line.integer
 directed direction.All = gives moves.All
-directed direction.Forward = lines.◌or◌ (lines.◌>>◌ (a_word (codes "all")) (gives moves.ForwardAll)) (lines.◌<$>◌ moves.Forward (maybe grammar.integer))
-directed direction.Backward = lines.◌or◌ (lines.◌>>◌ (a_word (codes "all")) (gives moves.BackwardAll)) (lines.◌<$>◌ moves.Backward (maybe grammar.integer))
+directed direction.Forward = lines.◌or◌ (lines.◌>>◌ (a_word (codes "all")) (gives moves.ForwardAll)) (lines.◌<$>◌ moves.Forward (maybe line.integer))
+directed direction.Backward = lines.◌or◌ (lines.◌>>◌ (a_word (codes "all")) (gives moves.BackwardAll)) (lines.◌<$>◌ moves.Backward (maybe line.integer))
 
 abbrev pub direction_heads : List Head
 direction_heads =
@@ -260,10 +261,10 @@ spelt-direction ts d us (t, e, v) = by t e v
 
 -- the line in the order in which it is read
 abbrev ordered : Line Motion
-ordered = lines.◌or◌ (lines.◌<$>◌ moves.Count grammar.integer) direction_or_next
+ordered = lines.◌or◌ (lines.◌<$>◌ moves.Count line.integer) direction_or_next
 
-there : (ts : Tokens) (a : Motion) (us : Tokens) → ordered ts a us → grammar.optional_motion ts a us
-unfolding grammar.motion
+there : (ts : Tokens) (a : Motion) (us : Tokens) → ordered ts a us → line.optional_motion ts a us
+unfolding line.motion
 there ts a us (inl count) = inl (inr (inr (inr (inr (inr (inr (inl count)))))))
 there ts a us (inr (inr (x, middle, none, given))) = inr (tt, middle, (none.0, λ u vs spelt. let found = seen-direction ts vs spelt in none.1 found.0 vs found.1), given)
 there ts a us (inr (inl (d, middle, (t, e, v), rest))) = by t e v
@@ -271,7 +272,7 @@ there ts a us (inr (inl (d, middle, (t, e, v), rest))) = by t e v
     at : (w v : Text) (found : Direction) → TakesToken (token.Word w) ts middle → (w ≡ v) × (d ≡ found) → (lines.◌>>◌ (a_word v) (directed found)) ts a us
     at w v found e same = (tt, middle, taking e (ap token.Word same.0), subst (λ x. directed x middle a us) same.1 rest)
 
-    by : (t : Token) → TakesToken t ts middle → direction_of t ≡ Some d → grammar.optional_motion ts a us
+    by : (t : Token) → TakesToken t ts middle → direction_of t ≡ Some d → line.optional_motion ts a us
     by (token.Word w) e v = inl (⊎_elim (λ x. inl (at w (codes "next") direction.Next e x)) (λ v.
         ⊎_elim (λ x. inr (inl (at w (codes "prior") direction.Prior e x))) (λ v.
         ⊎_elim (λ x. inr (inr (inl (at w (codes "first") direction.First e x)))) (λ v.
@@ -291,8 +292,8 @@ there ts a us (inr (inl (d, middle, (t, e, v), rest))) = by t e v
     by (token.Param x) e v = cc
     by (token.Backslash l) e v = cc
 
-back : (ts : Tokens) (a : Motion) (us : Tokens) → grammar.optional_motion ts a us → ordered ts a us
-unfolding grammar.motion
+back : (ts : Tokens) (a : Motion) (us : Tokens) → line.optional_motion ts a us → ordered ts a us
+unfolding line.motion
 back ts a us (inr (x, middle, none, given)) = inr (inr (tt, middle, (none.0, λ d vs spelt. none.1 tt vs (spelt-direction ts d vs spelt)), given))
 back ts a us (inl (inl (u, middle, e, rest))) = inr (inl (direction.Next, middle, (token.Word (codes "next"), e, refl), rest))
 back ts a us (inl (inr (inl (u, middle, e, rest)))) = inr (inl (direction.Prior, middle, (token.Word (codes "prior"), e, refl), rest))
@@ -311,7 +312,7 @@ then-same (Some p) g h = refl
 then-same None g h = refl
 
 module _ {n : ℕ} where
-  pub agrees-optional_integer : Agrees (Unit {0}) n numbers.optional_integer (maybe grammar.integer) 0 (numeral_heads ++ Head.others bar_motion ∷ []) bar_motion
+  pub agrees-optional_integer : Agrees (Unit {0}) n numbers.optional_integer (maybe line.integer) 0 (numeral_heads ++ Head.others bar_motion ∷ []) bar_motion
   unfolding numbers.optional_integer
   agrees-optional_integer = agrees-looking {n = n} (seen Some) unseen (agrees-map Some (agrees-wider bar_motion refl agrees-integer)) (agrees-pure None bar_motion)
     where
@@ -333,7 +334,7 @@ module _ {n : ℕ} where
   agrees-direction_or_next : Agrees (Unit {0}) n (taken direction_of >>= spec.directed_or_next) direction_or_next 0 (direction_heads ++ Head.others bar_motion ∷ []) bar_motion
   agrees-direction_or_next = agrees-unless spec.directed_or_next (omega arith) stands-direction agrees-directed (agrees-pure moves.Next bar_motion)
 
-  agrees-optional_motion : Agrees (Unit {0}) n spec.optional_motion grammar.optional_motion 0 motion_heads bar_motion
+  agrees-optional_motion : Agrees (Unit {0}) n spec.optional_motion line.optional_motion 0 motion_heads bar_motion
   unfolding spec.optional_motion numbers.optional_integer
   agrees-optional_motion = agrees-same there back (agrees-read same_so (agrees-looking {n = n} (seen moves.Count) unseen (agrees-map moves.Count (agrees-wider bar_motion refl agrees-integer)) agrees-direction_or_next))
     where
@@ -348,18 +349,18 @@ module _ {n : ℕ} where
       same_so : (ts : Tokens) → cond {A = Parser Motion} (begins_integer ts) (moves.Count <$> numbers.integer) (taken direction_of >>= spec.directed_or_next) ts ≡ spec.optional_motion ts
       same_so ts = by (begins_integer ts) ts
 
-  agrees-fetch_tree : Agrees (Unit {0}) n cursors.fetch_tree grammar.fetch_tree 1 motion_heads nothing
-  unfolding cursors.fetch_tree grammar.fetch_tree is_reserved
+  agrees-fetch_tree : Agrees (Unit {0}) n cursors.fetch_tree line.fetch_tree 1 motion_heads nothing
+  unfolding cursors.fetch_tree line.fetch_tree is_reserved
   agrees-fetch_tree = agrees-bind agrees-optional_motion (λ motion. agrees-either (codes "from") (codes "in") refl refl (agrees-bind agrees-name (λ cursor. agrees-pure (record { motion = motion; cursor = cursor }) nothing) refl)) refl
 
-  pub agrees-fetch : Agrees (Unit {0}) n cursors.fetch (lines.◌<$>◌ command.Fetch grammar.fetch_tree) 1 motion_heads nothing
+  pub agrees-fetch : Agrees (Unit {0}) n cursors.fetch (lines.◌<$>◌ command.Fetch line.fetch_tree) 1 motion_heads nothing
   unfolding cursors.fetch
   agrees-fetch = agrees-map command.Fetch agrees-fetch_tree
 
-  pub agrees-move_cursor : Agrees (Unit {0}) n cursors.move_cursor (lines.◌<$>◌ command.Move grammar.fetch_tree) 1 motion_heads nothing
+  pub agrees-move_cursor : Agrees (Unit {0}) n cursors.move_cursor (lines.◌<$>◌ command.Move line.fetch_tree) 1 motion_heads nothing
   unfolding cursors.move_cursor
   agrees-move_cursor = agrees-map command.Move agrees-fetch_tree
 
-  pub agrees-close : Agrees (Unit {0}) n cursors.close grammar.close 1 (Head.word (codes "all") ∷ Head.name ∷ []) nothing
-  unfolding cursors.close grammar.close is_reserved
+  pub agrees-close : Agrees (Unit {0}) n cursors.close line.close 1 (Head.word (codes "all") ∷ Head.name ∷ []) nothing
+  unfolding cursors.close line.close is_reserved
   agrees-close = agrees-word (codes "all") (agrees-pure command.CloseAll nothing) (agrees-map command.Close agrees-name) refl

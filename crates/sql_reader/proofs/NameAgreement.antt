@@ -7,11 +7,12 @@ use Rattle.sql_expr.specs.Lines as lines
 use Rattle.sql_reader_query.specs.Lists as spec_lists
 use Rattle.sql_reader_query.specs.Names as spec
 use Rattle.sql_expr.specs.Grammar.{qualified, column}
-use Rattle.sql_reader.specs.Grammar as grammar
+use Rattle.sql_expr.proofs.LineWords as words
 use Rattle.sql_expr.proofs.Heads.{Head}
 use Rattle.sql_expr.proofs.Agreement.{Agrees, nothing, bar_sign, agrees-pure, agrees-bind, agrees-same, agrees-sign, agrees-expect_sign}
 use Rattle.sql_expr.proofs.ListAgreement.{agrees-list}
 use Rattle.sql_expr.proofs.ExpressionAgreement.{agrees-name}
+use Rattle.sql_reader.proofs.CommandLines as line
 
 -- the line in the order in which it is read
 abbrev pub factored : Line (Option Text × Text)
@@ -33,8 +34,8 @@ module _ {n : ℕ} where
   agrees-qualified = agrees-same there back (agrees-bind agrees-name (λ first.
       agrees-sign sign.Dot (agrees-bind agrees-name (λ second. agrees-pure (Some first, second) (bar_sign sign.Dot)) refl) (agrees-pure (None, first) (bar_sign sign.Dot)) refl) refl)
 
-  pub agrees-relation : Agrees (Unit {0}) n spec.relation grammar.relation 1 (Head.name ∷ []) (bar_sign sign.Dot)
-  unfolding spec.relation grammar.relation
+  pub agrees-relation : Agrees (Unit {0}) n spec.relation line.relation 1 (Head.name ∷ []) (bar_sign sign.Dot)
+  unfolding spec.relation line.relation
   agrees-relation = agrees-bind agrees-qualified (λ q. agrees-pure (record { schema = q.0; name = q.1 }) (bar_sign sign.Dot)) refl
 
   pub agrees-column : Agrees (Unit {0}) n spec.column column 1 (Head.name ∷ []) (bar_sign sign.Dot)
@@ -42,11 +43,11 @@ module _ {n : ℕ} where
   agrees-column = agrees-bind agrees-qualified (λ q. agrees-pure (record { item = q.0; name = q.1 }) (bar_sign sign.Dot)) refl
 
   -- in parentheses
-  pub agrees-enclosed_names : Agrees (Unit {0}) n spec.enclosed_names (lines.◌>>=◌ (lines.list lines.name) (λ found. lines.◌>>◌ (mark sign.RightParen) (gives found))) 2 (Head.name ∷ []) nothing
+  pub agrees-enclosed_names : Agrees (Unit {0}) n spec.enclosed_names (lines.◌>>=◌ (words.list lines.name) (λ found. lines.◌>>◌ (mark sign.RightParen) (gives found))) 2 (Head.name ∷ []) nothing
   unfolding spec.enclosed_names spec.names spec_lists.listed
   agrees-enclosed_names = agrees-bind (agrees-list (bar_sign sign.Comma) agrees-name refl refl) (λ found. agrees-bind (agrees-expect_sign sign.RightParen) (λ u. agrees-pure found nothing) refl) refl
 
   -- with the parentheses
-  pub agrees-parenthesized_names : Agrees (Unit {0}) n spec.parenthesized_names grammar.parenthesized_names 3 (Head.sign sign.LeftParen ∷ []) nothing
-  unfolding spec.parenthesized_names grammar.parenthesized_names
+  pub agrees-parenthesized_names : Agrees (Unit {0}) n spec.parenthesized_names line.parenthesized_names 3 (Head.sign sign.LeftParen ∷ []) nothing
+  unfolding spec.parenthesized_names line.parenthesized_names
   agrees-parenthesized_names = agrees-bind (agrees-expect_sign sign.LeftParen) (λ u. agrees-enclosed_names) refl

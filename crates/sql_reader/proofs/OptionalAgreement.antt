@@ -6,9 +6,10 @@ use Rattle.std.proofs.lemmas.List.{append_assoc, append-nil}
 use Rattle.sql_tokens.specs.declared.token.Token.{Token}
 use Rattle.sql_tokens.specs.declared.token.Sign.{Sign}
 use Rattle.sql_expr.specs.Reading.{Text, Tokens, Outcome, Parser, and_then, ◌>>=◌, ◌<$>◌, pure, refuse, taken, behind, eat_word, goes_on, sees_word}
-use Rattle.sql_expr.specs.Lines.{Line, gives, unless, many, maybe, any, word as a_word}
+use Rattle.sql_expr.specs.Lines.{Line, gives, unless, many, maybe, word as a_word}
 use Rattle.sql_expr.specs.Lines as lines
 use Rattle.sql_reader_query.specs.Lists.{looking}
+use Rattle.sql_expr.proofs.LineWords.{any}
 use Rattle.sql_expr.proofs.Heads.{Barred, Head, clear, begins, all_avoid, begins-clear, clear-begins, begins-left, begins-right}
 use Rattle.sql_expr.proofs.Agreement.{Agrees, min-left, min-right, Stands, bind_some, bar_word, same_value, same_rest, same_read, read_then, agrees-pure, agrees-bind, agrees-same, agrees-wider, agrees-fewer, agrees-word, agrees-taken}
 

@@ -23,11 +23,13 @@ use Rattle.sql_expr.specs.Grammar as expression
 use Rattle.sql_reader_query.specs.Lists as spec_lists
 use Rattle.sql_reader_query.specs.Outputs as spec
 use Rattle.sql_reader.specs.Grammar as grammar
+use Rattle.sql_expr.proofs.LineWords as words
 use Rattle.sql_expr.proofs.Heads.{Barred, Head, clear, all_avoid, begins-clear, and-left, and-right}
 use Rattle.sql_expr.proofs.Agreement.{Agrees, bar_word, sign-seen, agrees-pure, agrees-bind, agrees-same, agrees-word, agrees-sign, agrees-expect_sign, eaten, two-tokens}
 use Rattle.sql_expr.proofs.ListAgreement.{agrees-list}
 use Rattle.sql_expr.proofs.ExpressionAgreement.{agrees-expression, expression_heads, operators, agrees-name}
 use Rattle.sql_expr.proofs.TokenKinds.{bar_names, stands-name}
+use Rattle.sql_reader.proofs.CommandLines as line
 use Rattle.sql_reader.proofs.OptionalAgreement.{also, agrees-given, agrees-looking}
 
 -- ---- [[AS] name]
@@ -36,21 +38,21 @@ use Rattle.sql_reader.proofs.OptionalAgreement.{also, agrees-given, agrees-looki
 abbrev factored : Line (Option Text)
 factored = lines.◌or◌ (lines.◌>>◌ (a_word (codes "as")) (lines.◌<$>◌ Some lines.name)) (maybe lines.name)
 
-alias-there : (ts : Tokens) (o : Option Text) (us : Tokens) → factored ts o us → grammar.alias ts o us
-unfolding grammar.alias
+alias-there : (ts : Tokens) (o : Option Text) (us : Tokens) → factored ts o us → line.alias ts o us
+unfolding line.alias
 alias-there ts o us (inl (u, middle, word, (a, rest, front, given))) = inl (a, rest, (true, middle, inl (u, middle, word, (refl, refl)), front), given)
 alias-there ts o us (inr (inl (a, rest, front, given))) = inl (a, rest, (false, ts, inr (refl, refl), front), given)
 alias-there ts o us (inr (inr none)) = inr none
 
-alias-back : (ts : Tokens) (o : Option Text) (us : Tokens) → grammar.alias ts o us → factored ts o us
-unfolding grammar.alias
+alias-back : (ts : Tokens) (o : Option Text) (us : Tokens) → line.alias ts o us → factored ts o us
+unfolding line.alias
 alias-back ts o us (inl (a, rest, (b, middle, inl (u, behind_word, word, same), front), given)) = inl (u, behind_word, word, (a, rest, subst (λ vs. lines.name vs a rest) same.1 front, given))
 alias-back ts o us (inl (a, rest, (b, middle, inr same, front), given)) = inr (inl (a, rest, subst (λ vs. lines.name vs a rest) same.1 front, given))
 alias-back ts o us (inr none) = inr (inr none)
 
 module _ {n : ℕ} where
   pub agrees-alias : (tail : Barred) → all_avoid bar_names (Head.others tail ∷ []) ≡ true → all_avoid (bar_word (codes "as")) (Head.name ∷ Head.others tail ∷ []) ≡ true
-      → Agrees (Unit {0}) n spec.alias grammar.alias 0 (Head.word (codes "as") ∷ Head.name ∷ Head.others tail ∷ []) tail
+      → Agrees (Unit {0}) n spec.alias line.alias 0 (Head.word (codes "as") ∷ Head.name ∷ Head.others tail ∷ []) tail
   unfolding spec.alias
   agrees-alias tail ends apart = agrees-same alias-there alias-back (agrees-word (codes "as") (agrees-bind agrees-name (λ a. agrees-pure (Some a) tail) refl) (agrees-given tail stands-name ends) apart)
 
@@ -185,10 +187,10 @@ abbrev pub outputs_tail : Barred
 outputs_tail = also [] (sign.Comma ∷ []) output_tail
 
 abbrev computed_line : Line OutputItem
-computed_line = lines.◌>>=◌ expression.expression (λ x. lines.◌>>=◌ grammar.alias (λ named. gives (output_item.Expr x named)))
+computed_line = lines.◌>>=◌ expression.expression (λ x. lines.◌>>=◌ line.alias (λ named. gives (output_item.Expr x named)))
 
 -- behind the expression
-agrees-aliased : {n : ℕ} (x : Expr) → Agrees (Unit {0}) n (spec.alias >>= (λ named. pure (output_item.Expr x named))) (lines.◌>>=◌ grammar.alias (λ named. gives (output_item.Expr x named))) 0
+agrees-aliased : {n : ℕ} (x : Expr) → Agrees (Unit {0}) n (spec.alias >>= (λ named. pure (output_item.Expr x named))) (lines.◌>>=◌ line.alias (λ named. gives (output_item.Expr x named))) 0
     (Head.word (codes "as") ∷ Head.name ∷ Head.others output_tail ∷ []) output_tail
 unfolding is_reserved
 agrees-aliased x = agrees-bind (agrees-alias output_tail refl refl) (λ named. agrees-pure (output_item.Expr x named) output_tail) refl
@@ -207,7 +209,7 @@ computed-apart ts o us (x, middle, spelt, more) c = by (spec.sees_all_of ts) ref
   where
     free : clear operators middle ≡ true
     free =
-        let behind_it : Agrees (Unit {0}) (length ts) (spec.alias >>= (λ named. pure (output_item.Expr x named))) (lines.◌>>=◌ grammar.alias (λ named. gives (output_item.Expr x named))) 0
+        let behind_it : Agrees (Unit {0}) (length ts) (spec.alias >>= (λ named. pure (output_item.Expr x named))) (lines.◌>>=◌ line.alias (λ named. gives (output_item.Expr x named))) 0
         (Head.word (codes "as") ∷ Head.name ∷ Head.others output_tail ∷ []) output_tail = agrees-aliased x in
         begins-clear operators (Head.word (codes "as") ∷ Head.name ∷ Head.others output_tail ∷ []) middle refl (behind_it.starts middle o us more c)
 
@@ -219,11 +221,11 @@ computed-apart ts o us (x, middle, spelt, more) c = by (spec.sees_all_of ts) ref
         cc
     by false e = refl
 
-pub agrees-output : {n : ℕ} → Agrees (Unit {0}) n spec.output grammar.output 1 (Head.sign sign.Star ∷ Head.name ∷ expression_heads) output_tail
-unfolding spec.output grammar.output is_reserved
+pub agrees-output : {n : ℕ} → Agrees (Unit {0}) n spec.output line.output 1 (Head.sign sign.Star ∷ Head.name ∷ expression_heads) output_tail
+unfolding spec.output line.output is_reserved
 agrees-output = agrees-sign sign.Star (agrees-pure output_item.All output_tail) (agrees-looking sees-all-of computed-apart agrees-all_of agrees-computed) refl
 
 -- list(output)
-pub agrees-outputs : {n : ℕ} → Agrees (Unit {0}) n (spec_lists.listed spec.output) (lines.list grammar.output) 1 (Head.sign sign.Star ∷ Head.name ∷ expression_heads) outputs_tail
+pub agrees-outputs : {n : ℕ} → Agrees (Unit {0}) n (spec_lists.listed spec.output) (words.list line.output) 1 (Head.sign sign.Star ∷ Head.name ∷ expression_heads) outputs_tail
 unfolding spec_lists.listed is_reserved
 agrees-outputs = agrees-list outputs_tail agrees-output refl refl

@@ -11,6 +11,7 @@ use Rattle.sql_reader_catalog.specs.Columns as spec
 use Rattle.sql_reader.specs.Grammar as grammar
 use Rattle.sql_expr.proofs.Heads.{Barred, Head, clear, begins-clear, begins-right}
 use Rattle.sql_expr.proofs.Agreement.{Agrees, same_read, read_then, nothing, agrees-pure, agrees-bind, agrees-word, agrees-expect_word, two-tokens}
+use Rattle.sql_reader.proofs.CommandLines as line
 use Rattle.sql_reader.proofs.ConstantAgreement.{agrees-constant}
 use Rattle.sql_reader.proofs.KeywordAgreement.{anything, begins-anything}
 use Rattle.sql_reader.proofs.PartLemmas.{meant}
@@ -33,7 +34,7 @@ key_line false = gives None
 abbrev part_line : Bool → Line (Option Part)
 part_line with_keys = lines.◌or◌ (lines.◌>>◌ (a_word (codes "not")) (lines.◌>>◌ (a_word (codes "null")) (gives (Some (variant.Nulls nullability.NotNull)))))
     (lines.◌or◌ (lines.◌>>◌ (a_word (codes "null")) (gives (Some (variant.Nulls nullability.Null))))
-    (lines.◌or◌ (lines.◌>>◌ (a_word (codes "default")) (lines.◌<$>◌ (λ value. Some (variant.Default value)) grammar.constant)) (key_line with_keys)))
+    (lines.◌or◌ (lines.◌>>◌ (a_word (codes "default")) (lines.◌<$>◌ (λ value. Some (variant.Default value)) line.constant)) (key_line with_keys)))
 
 -- more heads may be named
 pub agrees-heads : {S : Type 0} {n : ℕ} {A : Type 0} {p : Parser A} {P : Line A} {k : ℕ} {heads : List Head} {tail : Barred} (more : List Head)
@@ -64,10 +65,10 @@ module _ {n : ℕ} where
 
 -- what was read, with the meaning of a part
 abbrev pub Read : Bool → Tokens → Option Part → Tokens → Type 0
-Read with_keys ts found us = ((p : grammar.Part) × (found ≡ Some (meant p)) × grammar.part with_keys ts p us) ⊎ ((found ≡ None) × (us ≡ ts))
+Read with_keys ts found us = ((p : grammar.Part) × (found ≡ Some (meant p)) × line.part with_keys ts p us) ⊎ ((found ≡ None) × (us ≡ ts))
 
 key-read : (with_keys : Bool) (ts : Tokens) (found : Option Part) (us : Tokens) → key_line with_keys ts found us → Read with_keys ts found us
-unfolding grammar.part grammar.key_part
+unfolding line.part line.key_part
 key-read true ts found us (inl (u, middle, first, (v, last, second, (value, end)))) =
     inl (grammar.Part.keyed kind.Primary, value, inr (inr (inr (inl (u, middle, first, (v, last, second, (refl, end)))))))
 key-read true ts found us (inr (inl (u, middle, first, (value, end)))) = inl (grammar.Part.keyed kind.Unique, value, inr (inr (inr (inr (u, middle, first, (refl, end))))))
@@ -75,7 +76,7 @@ key-read true ts found us (inr (inr none)) = inr none
 key-read false ts found us none = inr none
 
 part-read : (with_keys : Bool) (ts : Tokens) (found : Option Part) (us : Tokens) → part_line with_keys ts found us → Read with_keys ts found us
-unfolding grammar.part
+unfolding line.part
 part-read with_keys ts found us (inl (u, middle, first, (v, last, second, (value, end)))) =
     inl (grammar.Part.nulls false, value, inl (u, middle, first, (v, last, second, (refl, end))))
 part-read with_keys ts found us (inr (inl (u, middle, first, (value, end)))) = inl (grammar.Part.nulls true, value, inr (inl (u, middle, first, (refl, end))))
@@ -87,8 +88,8 @@ pub part-sound : (with_keys : Bool) (ts : Tokens) (found : Option Part) (us : To
 part-sound with_keys ts found us read = part-read with_keys ts found us ((agrees-part_line {n = 0} with_keys).sound tt ts found us read)
 
 -- whatever follows a part, it is read
-key-known : (with_keys : Bool) (ts : Tokens) (p : grammar.Part) (us : Tokens) → grammar.key_part with_keys ts p us → cond with_keys spec.key (pure None) ts ≡ Some (Some (meant p), us)
-unfolding grammar.key_part spec.key sees_word
+key-known : (with_keys : Bool) (ts : Tokens) (p : grammar.Part) (us : Tokens) → line.key_part with_keys ts p us → cond with_keys spec.key (pure None) ts ≡ Some (Some (meant p), us)
+unfolding line.key_part spec.key sees_word
 key-known true ts p us (inl (u, middle, first, (v, last, second, (value, end)))) =
     ap spec.key (two-tokens first second)
     ∙ same_read (Some (variant.Key kind.Primary)) (Some (meant p)) last us (ap (λ q. Some (meant q)) value) end
@@ -96,14 +97,14 @@ key-known true ts p us (inr (u, middle, first, (value, end))) =
     ap spec.key first.tokens ∙ same_read (Some (variant.Key kind.Unique)) (Some (meant p)) middle us (ap (λ q. Some (meant q)) value) end
 key-known false ts p us nothing_spelt = absurd nothing_spelt
 
-key-passed : (with_keys : Bool) (ts : Tokens) (p : grammar.Part) (us : Tokens) → grammar.key_part with_keys ts p us → spec.part with_keys ts ≡ cond with_keys spec.key (pure None) ts
-unfolding grammar.key_part spec.part sees_word
+key-passed : (with_keys : Bool) (ts : Tokens) (p : grammar.Part) (us : Tokens) → line.key_part with_keys ts p us → spec.part with_keys ts ≡ cond with_keys spec.key (pure None) ts
+unfolding line.key_part spec.part sees_word
 key-passed true ts p us (inl (u, middle, first, rest)) = ap (spec.part true) first.tokens ∙ ap spec.key (sym first.tokens)
 key-passed true ts p us (inr (u, middle, first, rest)) = ap (spec.part true) first.tokens ∙ ap spec.key (sym first.tokens)
 key-passed false ts p us nothing_spelt = absurd nothing_spelt
 
-pub part-known : (with_keys : Bool) (ts : Tokens) (p : grammar.Part) (us : Tokens) → grammar.part with_keys ts p us → spec.part with_keys ts ≡ Some (Some (meant p), us)
-unfolding grammar.part spec.part sees_word
+pub part-known : (with_keys : Bool) (ts : Tokens) (p : grammar.Part) (us : Tokens) → line.part with_keys ts p us → spec.part with_keys ts ≡ Some (Some (meant p), us)
+unfolding line.part spec.part sees_word
 part-known with_keys ts p us (inl (u, middle, first, (v, last, second, (value, end)))) =
     ap (spec.part with_keys) (two-tokens first second)
     ∙ same_read (Some (variant.Nulls nullability.NotNull)) (Some (meant p)) last us (ap (λ q. Some (meant q)) value) end
@@ -116,8 +117,8 @@ part-known with_keys ts p us (inr (inr (inl (u, middle, first, (given, last, fro
     (same_read (Some (variant.Default given)) (Some (meant p)) last us (ap (λ q. Some (meant q)) value) end)
 part-known with_keys ts p us (inr (inr (inr keyed))) = key-passed with_keys ts p us keyed ∙ key-known with_keys ts p us keyed
 
-pub part-takes : (with_keys : Bool) (ts : Tokens) (p : grammar.Part) (us : Tokens) → grammar.part with_keys ts p us → 1 + length us ≤ length ts
-unfolding grammar.part grammar.key_part
+pub part-takes : (with_keys : Bool) (ts : Tokens) (p : grammar.Part) (us : Tokens) → line.part with_keys ts p us → 1 + length us ≤ length ts
+unfolding line.part line.key_part
 part-takes with_keys ts p us (inl (u, middle, first, (v, last, second, (value, end)))) = let a = ap length first.tokens in let b = ap length second.tokens in let c = ap length end in omega (arith, a, b, c)
 part-takes with_keys ts p us (inr (inl (u, middle, first, (value, end)))) = let a = ap length first.tokens in let c = ap length end in omega (arith, a, c)
 part-takes with_keys ts p us (inr (inr (inl (u, middle, first, (given, last, front, (value, end)))))) =

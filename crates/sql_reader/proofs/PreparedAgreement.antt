@@ -5,18 +5,19 @@ use Rattle.sql_tokens.specs.declared.token.Sign.TheVariants as sign
 use Rattle.sql_tree.specs.declared.command.Command.{Command}
 use Rattle.sql_tree.specs.declared.command.Command.TheVariants as command
 use Rattle.sql_expr.specs.Reading.{Tokens, Parser, ◌>>=◌, ◌<$>◌, pure, refuse, eat_word, sees_word}
-use Rattle.sql_expr.specs.Lines.{Line, nowhere, gives, any, word as a_word}
+use Rattle.sql_expr.specs.Lines.{Line, gives, word as a_word}
 use Rattle.sql_expr.specs.Lines as lines
 use Rattle.sql_expr.specs.Names.{is_reserved, sees_name}
 use Rattle.sql_expr.specs.Names as names
 use Rattle.sql_reader_query.specs.Names.{optional_names}
 use Rattle.sql_reader_session.specs.Prepared as spec
-use Rattle.sql_reader.specs.Grammar as grammar
-use Rattle.sql_reader.specs.Grammar.{statement, deallocated as target}
+use Rattle.sql_reader.specs.Grammar.{deallocated as target}
+use Rattle.sql_expr.proofs.LineWords.{nowhere, any}
 use Rattle.sql_expr.proofs.Heads.{Barred, Head, and-left, and-right}
 use Rattle.sql_expr.proofs.Agreement.{Agrees, nothing, bar_sign, word-seen, sees-word, tests-word, agrees-pure, agrees-refuse, agrees-bind, agrees-same, agrees-wider, agrees-test, agrees-word, agrees-sign, agrees-expect_word, agrees-expect_sign}
 use Rattle.sql_expr.proofs.ListAgreement.{agrees-list}
 use Rattle.sql_expr.proofs.ExpressionAgreement.{list_tail, agrees-name, agrees-expression}
+use Rattle.sql_reader.proofs.CommandLines as line
 use Rattle.sql_reader.proofs.NameAgreement.{agrees-enclosed_names}
 use Rattle.sql_reader.proofs.StatementAgreement.{statement_tail, agrees-statement}
 use Rattle.sql_reader.proofs.KeywordAgreement.{agrees-map, sees_before, both-true, Looks, agrees-before, name-there, name-sees}
@@ -71,12 +72,12 @@ module _ {n : ℕ} where
   unfolding is_reserved
   agrees-target = agrees-word (codes "all") (agrees-pure command.DeallocateAll bar_targets) (agrees-map command.Deallocate (agrees-wider bar_targets refl agrees-name)) refl
 
-  pub agrees-deallocate : Agrees (Unit {0}) n spec.deallocate grammar.deallocate 1 (Head.word (codes "prepare") ∷ target_heads) bar_targets
-  unfolding spec.deallocate grammar.deallocate
+  pub agrees-deallocate : Agrees (Unit {0}) n spec.deallocate line.deallocate 1 (Head.word (codes "prepare") ∷ target_heads) bar_targets
+  unfolding spec.deallocate line.deallocate
   agrees-deallocate = agrees-before "prepare" looks-target agrees-target
 
-  pub agrees-discard : Agrees (Unit {0}) n spec.discard grammar.discard 1 (Head.word (codes "plans") ∷ Head.word (codes "temp") ∷ Head.word (codes "temporary") ∷ []) nothing
-  unfolding spec.discard grammar.discard
+  pub agrees-discard : Agrees (Unit {0}) n spec.discard line.discard 1 (Head.word (codes "plans") ∷ Head.word (codes "temp") ∷ Head.word (codes "temporary") ∷ []) nothing
+  unfolding spec.discard line.discard
   agrees-discard = agrees-same there back (agrees-word (codes "plans") (agrees-pure command.DiscardPlans nothing)
       (agrees-test (λ found. cond found (pure true) (eat_word (codes "temporary")) >>= either) (omega arith) (tests-word (codes "temp")) temp (agrees-word (codes "temporary") temp (agrees-refuse 1 [] nothing) refl) refl) refl)
     where
@@ -89,59 +90,59 @@ module _ {n : ℕ} where
       ordered : Line Command
       ordered = lines.◌or◌ (lines.◌>>◌ (a_word (codes "plans")) (gives command.DiscardPlans)) (lines.◌or◌ (lines.◌>>◌ (a_word (codes "temp")) (gives command.DiscardTemp)) (lines.◌or◌ (lines.◌>>◌ (a_word (codes "temporary")) (gives command.DiscardTemp)) nowhere))
 
-      there : (ts : Tokens) (c : Command) (us : Tokens) → ordered ts c us → grammar.discard ts c us
+      there : (ts : Tokens) (c : Command) (us : Tokens) → ordered ts c us → line.discard ts c us
       there ts c us (inl plans) = inl plans
       there ts c us (inr (inl (u, middle, e, rest))) = inr (u, middle, inl e, rest)
       there ts c us (inr (inr (inl (u, middle, e, rest)))) = inr (u, middle, inr e, rest)
       there ts c us (inr (inr (inr none))) = absurd none
 
-      back : (ts : Tokens) (c : Command) (us : Tokens) → grammar.discard ts c us → ordered ts c us
+      back : (ts : Tokens) (c : Command) (us : Tokens) → line.discard ts c us → ordered ts c us
       back ts c us (inl plans) = inl plans
       back ts c us (inr (u, middle, inl e, rest)) = inr (inl (u, middle, e, rest))
       back ts c us (inr (u, middle, inr e, rest)) = inr (inr (inl (u, middle, e, rest)))
 
   -- ---- EXECUTE
 
-  agrees-arguments : Agrees (Unit {0}) n spec.arguments (any grammar.arguments) 0 (Head.sign sign.LeftParen ∷ Head.others (bar_sign sign.LeftParen) ∷ []) (bar_sign sign.LeftParen)
-  unfolding spec.arguments spec.expressions grammar.arguments
+  agrees-arguments : Agrees (Unit {0}) n spec.arguments (any line.arguments) 0 (Head.sign sign.LeftParen ∷ Head.others (bar_sign sign.LeftParen) ∷ []) (bar_sign sign.LeftParen)
+  unfolding spec.arguments spec.expressions line.arguments
   agrees-arguments = agrees-sign sign.LeftParen (agrees-bind (agrees-list list_tail agrees-expression refl refl) (λ found.
       agrees-bind (agrees-expect_sign sign.RightParen) (λ u. agrees-pure found (bar_sign sign.LeftParen)) refl) refl) (agrees-pure [] (bar_sign sign.LeftParen)) refl
 
-  pub agrees-execute_tree : Agrees (Unit {0}) n spec.execute_tree grammar.execute_tree 1 (Head.name ∷ []) (bar_sign sign.LeftParen)
-  unfolding spec.execute_tree grammar.execute_tree
+  pub agrees-execute_tree : Agrees (Unit {0}) n spec.execute_tree line.execute_tree 1 (Head.name ∷ []) (bar_sign sign.LeftParen)
+  unfolding spec.execute_tree line.execute_tree
   agrees-execute_tree = agrees-bind agrees-name (λ name. agrees-map (λ found. record { name = name; arguments = found }) agrees-arguments) refl
 
-  pub agrees-execute : Agrees (Unit {0}) n spec.execute (lines.◌<$>◌ command.Execute grammar.execute_tree) 1 (Head.name ∷ []) (bar_sign sign.LeftParen)
+  pub agrees-execute : Agrees (Unit {0}) n spec.execute (lines.◌<$>◌ command.Execute line.execute_tree) 1 (Head.name ∷ []) (bar_sign sign.LeftParen)
   unfolding spec.execute
   agrees-execute = agrees-map command.Execute agrees-execute_tree
 
   -- ---- PREPARE and EXPLAIN
 
   -- ["(" names ")"]
-  agrees-types : Agrees (Unit {0}) n optional_names (any grammar.parenthesized_names) 0 (Head.sign sign.LeftParen ∷ Head.others (bar_sign sign.LeftParen) ∷ []) (bar_sign sign.LeftParen)
-  unfolding optional_names grammar.parenthesized_names
+  agrees-types : Agrees (Unit {0}) n optional_names (any line.parenthesized_names) 0 (Head.sign sign.LeftParen ∷ Head.others (bar_sign sign.LeftParen) ∷ []) (bar_sign sign.LeftParen)
+  unfolding optional_names line.parenthesized_names
   agrees-types = agrees-sign sign.LeftParen (agrees-wider (bar_sign sign.LeftParen) refl agrees-enclosed_names) (agrees-pure [] (bar_sign sign.LeftParen)) refl
 
-  pub agrees-prepare_tree : Agrees (Unit {0}) n spec.prepare_tree grammar.prepare_tree 3 (Head.name ∷ []) statement_tail
-  unfolding spec.prepare_tree grammar.prepare_tree
+  pub agrees-prepare_tree : Agrees (Unit {0}) n spec.prepare_tree line.prepare_tree 3 (Head.name ∷ []) statement_tail
+  unfolding spec.prepare_tree line.prepare_tree
   agrees-prepare_tree = agrees-bind agrees-name (λ name. agrees-bind agrees-types (λ types. agrees-bind (agrees-expect_word (codes "as")) (λ u.
       agrees-map (λ found. record { name = name; types = types; statement = found }) agrees-statement) refl) refl) refl
 
-  pub agrees-prepare : Agrees (Unit {0}) n spec.prepare (lines.◌<$>◌ command.Prepare grammar.prepare_tree) 3 (Head.name ∷ []) statement_tail
+  pub agrees-prepare : Agrees (Unit {0}) n spec.prepare (lines.◌<$>◌ command.Prepare line.prepare_tree) 3 (Head.name ∷ []) statement_tail
   unfolding spec.prepare
   agrees-prepare = agrees-map command.Prepare agrees-prepare_tree
 
-  pub agrees-explain : Agrees (Unit {0}) n spec.explain grammar.explain 1 explain_heads statement_tail
-  unfolding spec.explain grammar.explain
+  pub agrees-explain : Agrees (Unit {0}) n spec.explain line.explain 1 explain_heads statement_tail
+  unfolding spec.explain line.explain
   agrees-explain = agrees-same there back (agrees-word (codes "execute") (agrees-map command.ExplainExecute (agrees-wider statement_tail refl agrees-execute_tree)) (agrees-map command.Explain agrees-statement) refl)
     where
       ordered : Line Command
-      ordered = lines.◌or◌ (lines.◌>>◌ (a_word (codes "execute")) (lines.◌<$>◌ command.ExplainExecute grammar.execute_tree)) (lines.◌<$>◌ command.Explain statement)
+      ordered = lines.◌or◌ (lines.◌>>◌ (a_word (codes "execute")) (lines.◌<$>◌ command.ExplainExecute line.execute_tree)) (lines.◌<$>◌ command.Explain line.statement)
 
-      there : (ts : Tokens) (c : Command) (us : Tokens) → ordered ts c us → grammar.explain ts c us
+      there : (ts : Tokens) (c : Command) (us : Tokens) → ordered ts c us → line.explain ts c us
       there ts c us (inl executed) = inr executed
       there ts c us (inr stated) = inl stated
 
-      back : (ts : Tokens) (c : Command) (us : Tokens) → grammar.explain ts c us → ordered ts c us
+      back : (ts : Tokens) (c : Command) (us : Tokens) → line.explain ts c us → ordered ts c us
       back ts c us (inl stated) = inr stated
       back ts c us (inr executed) = inl executed

@@ -8,17 +8,19 @@ use Rattle.sql_tree.specs.declared.catalog.SchemaCommand.TheVariants as schema
 use Rattle.sql_tree.specs.declared.command.Command.{Command}
 use Rattle.sql_tree.specs.declared.command.Command.TheVariants as command
 use Rattle.sql_expr.specs.Reading.{Tokens, ◌<$>◌, pure}
-use Rattle.sql_expr.specs.Lines.{Line, nowhere, gives, word as a_word}
+use Rattle.sql_expr.specs.Lines.{Line, gives, word as a_word}
 use Rattle.sql_expr.specs.Lines as lines
 use Rattle.sql_expr.specs.Names.{is_reserved, sees_name}
 use Rattle.sql_reader_query.specs.Names.{relation}
 use Rattle.sql_reader_catalog.specs.Removal as spec
 use Rattle.sql_expr.specs.Grammar.{qualified}
 use Rattle.sql_reader.specs.Grammar as grammar
+use Rattle.sql_expr.proofs.LineWords.{nowhere}
 use Rattle.sql_expr.proofs.Heads.{Barred, Head, clear, begins-clear, clear-begins, not-true}
 use Rattle.sql_expr.proofs.Agreement.{Agrees, nothing, bar_sign, tests-word, agrees-pure, agrees-refuse, agrees-bind, agrees-same, agrees-fewer, agrees-test, agrees-word}
 use Rattle.sql_expr.proofs.ExpressionAgreement.{agrees-name}
 use Rattle.sql_expr.proofs.TokenKinds.{stands-name, bar_names}
+use Rattle.sql_reader.proofs.CommandLines as line
 use Rattle.sql_reader.proofs.KeywordAgreement.{name-sees, agrees-flag}
 use Rattle.sql_reader.proofs.NameAgreement.{agrees-relation}
 use Rattle.sql_reader.proofs.OptionalAgreement.{agrees-looking}
@@ -73,8 +75,8 @@ module _ {n : ℕ} where
   agrees-cascaded = agrees-same cascade-there cascade-back (agrees-word (codes "cascade") (agrees-pure true drop_tail)
       (agrees-test (λ found. pure false) (omega arith) (tests-word (codes "restrict")) (agrees-pure {n = n} false drop_tail) (agrees-pure false drop_tail) refl) refl)
 
-  pub agrees-drop_object : Agrees (Unit {0}) n spec.drop_object grammar.drop_object 1 (Head.word (codes "schema") ∷ kind_heads) drop_tail
-  unfolding spec.drop_object grammar.drop_object
+  pub agrees-drop_object : Agrees (Unit {0}) n spec.drop_object line.drop_object 1 (Head.word (codes "schema") ∷ kind_heads) drop_tail
+  unfolding spec.drop_object line.drop_object
   agrees-drop_object = agrees-fewer 1 (omega arith)
       (agrees-word (codes "schema") (agrees-bind agrees-name (λ dropped. agrees-pure (command.Schema (schema.Drop dropped)) drop_tail) refl)
       (agrees-bind agrees-object_kind (λ kind. agrees-bind agrees-relation (λ dropped. agrees-bind agrees-cascaded (λ cascade.
@@ -83,14 +85,14 @@ module _ {n : ℕ} where
 -- ---- TRUNCATE
 
 abbrev truncated : Line Command
-truncated = lines.◌<$>◌ command.Truncate grammar.relation
+truncated = lines.◌<$>◌ command.Truncate line.relation
 
 module _ {n : ℕ} where
   agrees-truncated : Agrees (Unit {0}) n (command.Truncate <$> relation) truncated 1 (Head.name ∷ []) (bar_sign sign.Dot)
   agrees-truncated = agrees-bind agrees-relation (λ name. agrees-pure (command.Truncate name) (bar_sign sign.Dot)) refl
 
-  pub agrees-truncate : Agrees (Unit {0}) n spec.truncate grammar.truncate 1 (Head.word (codes "table") ∷ Head.name ∷ []) (bar_sign sign.Dot)
-  unfolding spec.truncate grammar.truncate is_reserved
+  pub agrees-truncate : Agrees (Unit {0}) n spec.truncate line.truncate 1 (Head.word (codes "table") ∷ Head.name ∷ []) (bar_sign sign.Dot)
+  unfolding spec.truncate line.truncate is_reserved
   agrees-truncate = agrees-flag {R = λ found. truncated} (agrees-fewer 1 (omega arith)
       (agrees-test (λ found. command.Truncate <$> relation) (omega arith) (tests-word (codes "table")) agrees-truncated agrees-truncated refl))
 
@@ -99,8 +101,8 @@ module _ {n : ℕ} where
 abbrev pub analyze_tail : Barred
 analyze_tail = record bar_names { signs = sign.Dot ∷ [] }
 
-seen : (ts : Tokens) (c : Command) (us : Tokens) → (lines.◌<$>◌ (λ table. command.Analyze (Some table)) grammar.relation) ts c us → sees_name ts ≡ true
-unfolding grammar.relation qualified sees_name
+seen : (ts : Tokens) (c : Command) (us : Tokens) → (lines.◌<$>◌ (λ table. command.Analyze (Some table)) line.relation) ts c us → sees_name ts ≡ true
+unfolding line.relation qualified sees_name
 seen ts c us (table, last, (q, end, inl (first, middle, spelt, dotted), given), rest) = name-sees ts first middle spelt
 seen ts c us (table, last, (q, end, inr (first, middle, spelt, alone), given), rest) = name-sees ts first middle spelt
 
@@ -110,7 +112,7 @@ unseen [] c = refl
 unseen (t ∷ ts) c = ap is_some (stands-name.none t (not-true _ (begins-clear bar_names (Head.others analyze_tail ∷ []) (t ∷ ts) refl (clear-begins analyze_tail (t ∷ ts) c))))
 
 module _ {n : ℕ} where
-  pub agrees-analyze : Agrees (Unit {0}) n spec.analyze grammar.analyze 0 (Head.name ∷ Head.others analyze_tail ∷ []) analyze_tail
-  unfolding spec.analyze grammar.analyze
+  pub agrees-analyze : Agrees (Unit {0}) n spec.analyze line.analyze 0 (Head.name ∷ Head.others analyze_tail ∷ []) analyze_tail
+  unfolding spec.analyze line.analyze
   agrees-analyze = agrees-looking seen (λ ts c us spelt free. unseen ts (subst (λ vs. clear analyze_tail vs ≡ true) spelt.1 free))
       (agrees-bind agrees-relation (λ table. agrees-pure (command.Analyze (Some table)) analyze_tail) refl) (agrees-pure (command.Analyze None) analyze_tail)

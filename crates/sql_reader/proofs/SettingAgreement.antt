@@ -24,6 +24,7 @@ use Rattle.sql_expr.proofs.Agreement.{Agrees, Stands, nothing, bar_sign, agrees-
 use Rattle.sql_expr.proofs.ListAgreement.{agrees-list}
 use Rattle.sql_expr.proofs.ExpressionAgreement.{agrees-name}
 use Rattle.sql_expr.proofs.TokenKinds.{free-word, word-free}
+use Rattle.sql_reader.proofs.CommandLines as line
 use Rattle.sql_reader.proofs.LimitsAgreement.{agrees-numeral}
 use Rattle.sql_reader.proofs.KeywordAgreement.{agrees-keyword, looks-name}
 
@@ -112,7 +113,7 @@ abbrev valued_read : Bool → Text → Parser Command
 valued_read local n = spec.expect_to >>= (λ u. spec.set_value >>= (λ v. pure (command.Set (record { name = n; local = local; value = v }))))
 
 abbrev valued : Bool → Text → Line Command
-valued local n = lines.◌>>◌ (lines.◌or◌ (a_word (codes "to")) (mark sign.Equal)) (lines.◌>>=◌ grammar.set_value (λ v. gives (command.Set (record { name = n; local = local; value = v }))))
+valued local n = lines.◌>>◌ (lines.◌or◌ (a_word (codes "to")) (mark sign.Equal)) (lines.◌>>=◌ line.set_value (λ v. gives (command.Set (record { name = n; local = local; value = v }))))
 
 abbrev scoped_read : Bool → Parser Command
 scoped_read local = names.name >>= valued_read local
@@ -124,11 +125,11 @@ abbrev value_heads : List Head
 value_heads = Head.word (codes "to") ∷ Head.sign sign.Equal ∷ []
 
 module _ {n : ℕ} where
-  agrees-setting : Agrees (Unit {0}) n spec.setting grammar.setting 1 (text_heads ++ numeral_heads) nothing
-  unfolding spec.setting grammar.setting
+  agrees-setting : Agrees (Unit {0}) n spec.setting line.setting 1 (text_heads ++ numeral_heads) nothing
+  unfolding spec.setting line.setting
   agrees-setting = agrees-taken {n = n} spec.text_or_number (omega arith) stands-text (λ text. agrees-pure (record { text = text; number = false }) nothing) (agrees-bind agrees-numeral (λ found. agrees-pure (spec.number_setting found) nothing) refl) refl
 
-  agrees-set_value : Agrees (Unit {0}) n spec.set_value grammar.set_value 1 (Head.word (codes "default") ∷ text_heads ++ numeral_heads) (bar_sign sign.Comma)
+  agrees-set_value : Agrees (Unit {0}) n spec.set_value line.set_value 1 (Head.word (codes "default") ∷ text_heads ++ numeral_heads) (bar_sign sign.Comma)
   unfolding spec.set_value spec.settings is_reserved
   agrees-set_value = agrees-word (codes "default") (agrees-pure value.Default (bar_sign sign.Comma)) (agrees-bind (agrees-list (bar_sign sign.Comma) agrees-setting refl refl) (λ found. agrees-pure (value.List found) (bar_sign sign.Comma)) refl) refl
 
@@ -157,8 +158,8 @@ session_or_not = lines.◌or◌ (lines.◌>>◌ (a_word (codes "session")) (line
 abbrev ordered : Line Command
 ordered = lines.◌or◌ (lines.◌>>◌ (a_word (codes "local")) (lines.◌>>◌ (ahead name) (scoped true))) (lines.◌>>◌ (unless (lines.◌>>◌ (a_word (codes "local")) name)) session_or_not)
 
-set-there : (ts : Tokens) (c : Command) (us : Tokens) → ordered ts c us → grammar.set ts c us
-unfolding grammar.set
+set-there : (ts : Tokens) (c : Command) (us : Tokens) → ordered ts c us → line.set ts c us
+unfolding line.set
 set-there ts c us (inl (u, middle, here, (v, start, front, rest))) = (true, start, inr (inl (u, middle, here, (v, start, front, (refl, refl)))), rest)
 set-there ts c us (inr (x, first, none, inl (u, middle, here, (v, start, front, rest)))) = (false, start, inl (u, middle, beginning none.0 here, (v, start, front, (refl, refl))), rest)
 set-there ts c us (inr (x, first, none, inr (y, second, neither, rest))) =
@@ -176,8 +177,8 @@ not-local : (ts middle : Tokens) → TakesToken (token.Word (codes "session")) t
 unfolding sees_word
 not-local ts middle here a vs (u, last, local, named) = let clash : true ≡ false = ap (sees_word (codes "local")) (sym local.tokens ∙ here.tokens) in cc
 
-set-back : (ts : Tokens) (c : Command) (us : Tokens) → grammar.set ts c us → ordered ts c us
-unfolding grammar.set
+set-back : (ts : Tokens) (c : Command) (us : Tokens) → line.set ts c us → ordered ts c us
+unfolding line.set
 set-back ts c us (local, middle, inl (u, start, here, (v, last, front, same)), rest) =
     inr (tt, ts, (refl, not-local ts start here), inl (u, start, here, (v, last, front, moved local false middle last c us same rest)))
 set-back ts c us (local, middle, inr (inl (u, start, here, (v, last, front, same))), rest) = inl (u, start, here, (v, last, front, moved local true middle last c us same rest))
@@ -195,7 +196,7 @@ set-back ts c us (local, middle, inr (inr (v, start, none, same)), rest) =
     )
 
 module _ {n : ℕ} where
-  pub agrees-set : Agrees (Unit {0}) n spec.set grammar.set 3 (Head.word (codes "local") ∷ Head.word (codes "session") ∷ Head.name ∷ []) (bar_sign sign.Comma)
+  pub agrees-set : Agrees (Unit {0}) n spec.set line.set 3 (Head.word (codes "local") ∷ Head.word (codes "session") ∷ Head.name ∷ []) (bar_sign sign.Comma)
   unfolding spec.set spec.scope
   agrees-set = agrees-same set-there set-back (agrees-keyword (codes "local") (λ found. cond found (pure true) (eat_before_name (codes "session") >>= (λ u. pure false)) >>= scoped_read) (looks-name (codes "local")) (agrees-scoped true)
       (agrees-keyword (codes "session") (λ found. scoped_read false) (looks-name (codes "session")) (agrees-scoped false) (agrees-scoped false)))

@@ -16,6 +16,7 @@ use Rattle.sql_reader_query.specs.Statements as spec
 use Rattle.sql_reader.specs.Grammar as grammar
 use Rattle.sql_expr.proofs.Heads.{Barred, Head, and-left, and-right}
 use Rattle.sql_expr.proofs.Agreement.{Agrees, word-seen, agrees-pure, agrees-bind, agrees-same, agrees-wider, agrees-fewer, agrees-word, two-tokens}
+use Rattle.sql_reader.proofs.CommandLines as line
 use Rattle.sql_reader.proofs.OptionalAgreement.{also, agrees-read, agrees-looking-unless}
 use Rattle.sql_reader.proofs.QueryAgreement.{select_tail, agrees-selection}
 use Rattle.sql_reader.proofs.ChangeAgreement.{changed_line, changed-there, changed-back, where_tail, returning_tail, agrees-insertion, agrees-change, agrees-searched, agrees-positioned}
@@ -45,8 +46,8 @@ sees-current ts u vs (v, behind_current, (x, behind_where, where_word, current),
     = where_word.tokens ∙ ap (λ ws. token.Word (codes "where") ∷ ws) (two-tokens current of) in
     ap spec_changes.sees_position same
 
-sees-position : (c : Change) (ts : Tokens) (b : Command) (us : Tokens) → (lines.◌<$>◌ command.Positioned (grammar.positioned (spec_changes.statement_of c))) ts b us → spec_changes.sees_position ts ≡ true
-unfolding grammar.positioned
+sees-position : (c : Change) (ts : Tokens) (b : Command) (us : Tokens) → (lines.◌<$>◌ command.Positioned (line.positioned (spec_changes.statement_of c))) ts b us → spec_changes.sees_position ts ≡ true
+unfolding line.positioned
 sees-position c ts b us (p, end, (x, behind_of, position, named), given) = sees-current ts x behind_of position
 
 -- ---- the readings by the first word
@@ -61,8 +62,8 @@ by_word f other = do
 
 abbrev by_word_line : {B : Type 0} → (Statement → B) → Line B → Line B
 by_word_line f other =
-    lines.◌or◌ (lines.◌>>◌ (a_word (codes "select")) (lines.◌<$>◌ (λ s. f (Select s)) grammar.selection))
-    (lines.◌or◌ (lines.◌>>◌ (a_word (codes "insert")) (lines.◌<$>◌ (λ i. f (Insert i)) grammar.insertion)) other)
+    lines.◌or◌ (lines.◌>>◌ (a_word (codes "select")) (lines.◌<$>◌ (λ s. f (Select s)) line.selection))
+    (lines.◌or◌ (lines.◌>>◌ (a_word (codes "insert")) (lines.◌<$>◌ (λ i. f (Insert i)) line.insertion)) other)
 
 -- a statement that was read, and what is made of it
 made : {A B : Type 0} (o : Outcome A) (of : A → Statement) (f : Statement → B) (further : Option Statement → Parser B) → ((s : Statement) → further (Some s) ≡ pure (f s))
@@ -83,39 +84,39 @@ same-by-word {B = B} f other further some none ts = by (sees_word (codes "select
 -- ---- statement
 
 abbrev searched_line : Line Statement
-searched_line = lines.◌>>=◌ changed_line (λ c. grammar.searched (spec_changes.statement_of c))
+searched_line = lines.◌>>=◌ changed_line (λ c. line.searched (spec_changes.statement_of c))
 
-statement-there : (ts : Tokens) (s : Statement) (us : Tokens) → by_word_line (λ s. s) searched_line ts s us → grammar.statement ts s us
-unfolding grammar.statement grammar.select
+statement-there : (ts : Tokens) (s : Statement) (us : Tokens) → by_word_line (λ s. s) searched_line ts s us → line.statement ts s us
+unfolding line.statement line.select
 statement-there ts s us (inl (u, middle, select, (q, end, spelt, given))) = inl (inl (q, end, (u, middle, select, spelt), given))
 statement-there ts s us (inr (inl (u, middle, insert, (i, end, spelt, given)))) = inl (inr (i, end, (u, middle, insert, spelt), given))
 statement-there ts s us (inr (inr (c, middle, changed, rest))) = inr (spec_changes.statement_of c, middle, changed-there ts c middle changed, rest)
 
-statement-back : (ts : Tokens) (s : Statement) (us : Tokens) → grammar.statement ts s us → by_word_line (λ s. s) searched_line ts s us
-unfolding grammar.statement grammar.select
+statement-back : (ts : Tokens) (s : Statement) (us : Tokens) → line.statement ts s us → by_word_line (λ s. s) searched_line ts s us
+unfolding line.statement line.select
 statement-back ts s us (inl (inl (q, end, (u, middle, select, spelt), given))) = inl (u, middle, select, (q, end, spelt, given))
 statement-back ts s us (inl (inr (i, end, (u, middle, insert, spelt), given))) = inr (inl (u, middle, insert, (i, end, spelt, given)))
 statement-back ts s us (inr (f, middle, changed, rest)) =
     let read = changed-back ts f middle changed in
-    inr (inr (read.0, middle, read.2, subst (λ g. grammar.searched g middle s us) read.1 rest))
+    inr (inr (read.0, middle, read.2, subst (λ g. line.searched g middle s us) read.1 rest))
 
 -- ---- statement_command
 
 -- behind a change
 abbrev changing_of : grammar.Changed → Line Command
-changing_of f = lines.◌or◌ (lines.◌<$>◌ command.Positioned (grammar.positioned f)) (lines.◌>>◌ (unless grammar.current_of) (lines.◌<$>◌ command.Statement (grammar.searched f)))
+changing_of f = lines.◌or◌ (lines.◌<$>◌ command.Positioned (line.positioned f)) (lines.◌>>◌ (unless grammar.current_of) (lines.◌<$>◌ command.Statement (line.searched f)))
 
 abbrev changing_line : Change → Line Command
 changing_line c = changing_of (spec_changes.statement_of c)
 
-command-there : (ts : Tokens) (b : Command) (us : Tokens) → by_word_line command.Statement (lines.◌>>=◌ changed_line changing_line) ts b us → grammar.statement_command ts b us
-unfolding grammar.statement_command grammar.select
+command-there : (ts : Tokens) (b : Command) (us : Tokens) → by_word_line command.Statement (lines.◌>>=◌ changed_line changing_line) ts b us → line.statement_command ts b us
+unfolding line.statement_command line.select
 command-there ts b us (inl (u, middle, select, (q, end, spelt, given))) = inl (Select q, end, inl (q, end, (u, middle, select, spelt), (refl, refl)), given)
 command-there ts b us (inr (inl (u, middle, insert, (i, end, spelt, given)))) = inl (Insert i, end, inr (i, end, (u, middle, insert, spelt), (refl, refl)), given)
 command-there ts b us (inr (inr (c, middle, changed, rest))) = inr (spec_changes.statement_of c, middle, changed-there ts c middle changed, rest)
 
-command-back : (ts : Tokens) (b : Command) (us : Tokens) → grammar.statement_command ts b us → by_word_line command.Statement (lines.◌>>=◌ changed_line changing_line) ts b us
-unfolding grammar.statement_command grammar.select
+command-back : (ts : Tokens) (b : Command) (us : Tokens) → line.statement_command ts b us → by_word_line command.Statement (lines.◌>>=◌ changed_line changing_line) ts b us
+unfolding line.statement_command line.select
 command-back ts b us (inl (s, end, inl (q, rest, (u, middle, select, spelt), same), given)) =
     inl (u, middle, select, (q, rest, spelt, (given.0 ∙ ap command.Statement same.0, given.1 ∙ same.1)))
 command-back ts b us (inl (s, end, inr (i, rest, (u, middle, insert, spelt), same), given)) =
@@ -133,7 +134,7 @@ agrees-by_word : {n : ℕ} {B : Type 0} {other : Parser B} {line : Line B} (f : 
 agrees-by_word f rest = agrees-word (codes "select") (agrees-bind agrees-selection (λ s. agrees-pure (f (Select s)) statement_tail) refl)
     (agrees-word (codes "insert") (agrees-bind agrees-insertion (λ i. agrees-pure (f (Insert i)) statement_tail) refl) rest refl) refl
 
-pub agrees-statement : {n : ℕ} → Agrees (Unit {0}) n spec.statement grammar.statement 1
+pub agrees-statement : {n : ℕ} → Agrees (Unit {0}) n spec.statement line.statement 1
     (Head.word (codes "select") ∷ Head.word (codes "insert") ∷ Head.word (codes "update") ∷ Head.word (codes "delete") ∷ []) statement_tail
 unfolding spec.statement
 agrees-statement = agrees-read (same-by-word (λ s. s) (spec_changes.change >>= spec_changes.searched) spec.statement_or_change (λ s. refl) refl)
@@ -146,7 +147,7 @@ agrees-changing c = agrees-looking-unless current-there sees-current (sees-posit
     (agrees-bind (agrees-positioned c) (λ p. agrees-pure (command.Positioned p) returning_tail) refl)
     (agrees-bind (agrees-searched c) (λ s. agrees-pure (command.Statement s) returning_tail) refl)
 
-pub agrees-statement_command : {n : ℕ} → Agrees (Unit {0}) n spec.statement_command grammar.statement_command 1
+pub agrees-statement_command : {n : ℕ} → Agrees (Unit {0}) n spec.statement_command line.statement_command 1
     (Head.word (codes "select") ∷ Head.word (codes "insert") ∷ Head.word (codes "update") ∷ Head.word (codes "delete") ∷ []) statement_tail
 unfolding spec.statement_command
 agrees-statement_command = agrees-read (same-by-word command.Statement (spec_changes.change >>= spec_changes.change_command) spec.command_or_change (λ s. refl) refl)

@@ -15,6 +15,7 @@ use Rattle.sql_reader.specs.Grammar as grammar
 use Rattle.sql_expr.proofs.Heads.{Barred, Head}
 use Rattle.sql_expr.proofs.Agreement.{Agrees, nothing, bar_word, agrees-pure, agrees-bind, agrees-same, agrees-fewer, agrees-word, agrees-expect_word, agrees-expect_sign}
 use Rattle.sql_expr.proofs.ListAgreement.{agrees-list}
+use Rattle.sql_reader.proofs.CommandLines as line
 use Rattle.sql_reader.proofs.ColumnAgreement.{agrees-column_def}
 use Rattle.sql_reader.proofs.NameAgreement.{agrees-relation, agrees-parenthesized_names}
 use Rattle.sql_reader.proofs.PartAgreement.{part_words}
@@ -27,19 +28,19 @@ abbrev pub element_tail : Barred
 element_tail = record part_words { signs = sign.Comma ∷ [] }
 
 module _ {n : ℕ} where
-  agrees-constraint : (kind : KeyKind) → Agrees (Unit {0}) n (spec.constraint kind) (grammar.constraint kind) 3 (Head.sign sign.LeftParen ∷ []) part_words
+  agrees-constraint : (kind : KeyKind) → Agrees (Unit {0}) n (spec.constraint kind) (line.constraint kind) 3 (Head.sign sign.LeftParen ∷ []) part_words
   unfolding spec.constraint
   agrees-constraint kind = agrees-bind agrees-parenthesized_names (λ columns. agrees-pure (element_of.Key (record { kind = kind; columns = columns })) part_words) refl
 
-  pub agrees-element : Agrees (Unit {0}) n spec.element grammar.element 1 element_heads part_words
-  unfolding spec.element grammar.element is_reserved
+  pub agrees-element : Agrees (Unit {0}) n spec.element line.element 1 element_heads part_words
+  unfolding spec.element line.element is_reserved
   agrees-element = agrees-fewer 1 (omega arith)
       (agrees-word (codes "primary") (agrees-bind (agrees-expect_word (codes "key")) (λ u. agrees-constraint kind.Primary) refl)
       (agrees-word (codes "unique") (agrees-constraint kind.Unique)
       (agrees-bind (agrees-column_def true) (λ def. agrees-pure (element_of.Column def) part_words) refl) refl) refl)
 
-  pub agrees-table : Agrees (Unit {0}) n spec.table grammar.table 1 (Head.name ∷ []) nothing
-  unfolding spec.table grammar.table
+  pub agrees-table : Agrees (Unit {0}) n spec.table line.table 1 (Head.name ∷ []) nothing
+  unfolding spec.table line.table
   agrees-table = agrees-fewer 1 (omega arith)
       (agrees-bind agrees-relation (λ name. agrees-bind (agrees-expect_sign sign.LeftParen) (λ u. agrees-bind (agrees-list element_tail agrees-element refl refl) (λ elements.
       agrees-bind (agrees-expect_sign sign.RightParen) (λ v. agrees-pure (record { name = name; elements = elements }) nothing) refl) refl) refl) refl)
@@ -73,6 +74,6 @@ module _ {n : ℕ} where
       (agrees-bind (agrees-expect_word (codes "preserve")) (λ v. agrees-bind (agrees-expect_word (codes "rows")) (λ w. agrees-pure Preserve bar_on) refl) refl) refl) refl)) refl)
       (agrees-pure Preserve bar_on) refl
 
-  pub agrees-temp_table : Agrees (Unit {0}) n spec.temp_table grammar.temp_table 1 (Head.name ∷ []) bar_on
-  unfolding spec.temp_table grammar.temp_table
+  pub agrees-temp_table : Agrees (Unit {0}) n spec.temp_table line.temp_table 1 (Head.name ∷ []) bar_on
+  unfolding spec.temp_table line.temp_table
   agrees-temp_table = agrees-bind agrees-table (λ made. agrees-bind agrees-on_commit (λ ends. agrees-pure (record { table = made; on_commit = ends }) bar_on) refl) refl
