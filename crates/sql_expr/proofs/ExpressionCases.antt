@@ -9,7 +9,6 @@ use Rattle.sql_tree.specs.declared.expr.Expr.TheVariants as e
 use Prim.Native.String.{String}
 use Rattle.sql_expr.specs.declared.grammar.Level.{Level, TheVariants.Whole, TheVariants.Negated, TheVariants.Signed}
 use Rattle.sql_expr.specs.Lines.{Text, Tokens, TakesToken, Line, key, mark, name, said, many}
-use Rattle.sql_expr.specs.Lines as lines
 use Rattle.sql_expr.specs.Grammar.{literal, qualified, column, additive, multiplicative, Rule, Meaning, Spells, expression}
 use Rattle.sql_expr.proofs.LineWords.{separated, list, last-separated, next-separated, list-of}
 use Rattle.sql_expr.proofs.Agreement.{one, beginning, ending}

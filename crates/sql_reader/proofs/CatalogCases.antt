@@ -6,7 +6,6 @@ use Rattle.sql_tree.specs.declared.expr.Literal.TheVariants as literal
 use Rattle.sql_expr.specs.Lines.{Tokens, Line, ◌>>=◌, ◌>>◌, name, key, said}
 use Rattle.sql_expr.specs.Grammar.{column}
 use Rattle.sql_reader.specs.Grammar.{Part, Rule, Spells, nullability_of, default_of}
-use Rattle.sql_expr.proofs.LineWords.{list}
 use Rattle.sql_reader.proofs.CommandLines as line
 use Rattle.sql_reader.proofs.QueryCases.{closes, line-list, case-list, line-repeated, case-repeated, line-relation, case-relation, line-parenthesized_names, case-parenthesized_names, line-optional_names, case-optional_names, line-select, case-select}
 

@@ -39,7 +39,7 @@ named n us free = stands-name.there (w n ∷ us) (codes n) us (w n, next, free)
 -- a name alone, of a relation and of a column
 a-relation : (n : String) (us : Tokens) → name_of (w n) ≡ Some (codes n) → grammar.Spells grammar.Rule.relation (w n ∷ us) (relation (codes n)) us
 unfolding qualified
-a-relation n us free = step.related (inr (codes n, us, named n us free, (refl, refl)))
+a-relation n us free = step.named_relation (inr (codes n, us, named n us free, (refl, refl)))
 
 a-column : (n : String) (us : Tokens) → name_of (w n) ≡ Some (codes n) → Spells Rule.primary (w n ∷ us) (column_named (codes n)) us
 unfolding qualified column
@@ -71,7 +71,7 @@ expression-of spelt = conjunction-of (Spells.conjoined (Spells.last_negation spe
 a-select : (ts us : Tokens) (given : OutputItem) (from : List FromChain) → grammar.Spells grammar.Rule.output ts given us → grammar.Spells grammar.Rule.from us from []
     → SpellsAll (w "select" ∷ ts) (selected given from)
 unfolding grammar.distinct
-a-select ts us given from front chains = step.select_command (step.selected next (inr (inr (refl, refl))) (step.last front refl) chains
+a-select ts us given from front chains = step.select_command (step.selected next (inr (inr (refl, refl))) (step.last_item front refl) chains
     (step.no_condition refl refl) (step.ungrouped refl refl) (step.no_having refl refl) (step.unordered refl refl)
     (step.limit_first (step.no_limit refl refl) (step.no_offset refl refl))) refl
 
@@ -117,7 +117,7 @@ in_chain_of_joins = w "select" ∷ token.Sign sign.Star ∷ w "from" ∷ w "a" �
 pub chain_of_joins : SpellsAll in_chain_of_joins
     (selected output.All (record { first = item (codes "a"); joins = join.Inner (item (codes "b")) (column_named (codes "c")) ∷ join.Cross (item (codes "d")) ∷ [] } ∷ []))
 unfolding is_reserved
-chain_of_joins = a-select _ _ output.All _ (step.every_column next refl) (step.from_chains next (step.last (step.chained (an-item "a" _ refl)
+chain_of_joins = a-select _ _ output.All _ (step.every_column next refl) (step.from_chains next (step.last_item (step.chained (an-item "a" _ refl)
     (step.one_more (step.inner_joined false (inr (refl, refl)) next (an-item "b" _ refl) next (expression-of (negation-of (Spells.only_membership (membership-of (a-column "c" _ refl))))) refl)
     (step.one_more (step.cross_joined next next (an-item "d" _ refl) refl) (step.no_more refl refl) refl) refl)) refl))
 
@@ -177,7 +177,7 @@ in_local_as_name = w "set" ∷ w "local" ∷ token.Sign sign.Equal ∷ token.Num
 pub local_as_name : SpellsAll in_local_as_name (command.Set (record { name = codes "local"; local = false; value = value.List (record { text = codes "1"; number = true } ∷ []) }))
 unfolding is_reserved
 local_as_name = step.setting_set _ _ next (inr (inr (tt, _, (refl, λ n us spelt. no-scope n us spelt), (refl, refl)))) (named "local" _ refl) (inr next)
-    (step.set_to_list (step.last (step.number_setting (step.unsigned next refl) refl) refl) refl) refl
+    (step.set_to_list (step.last_item (step.number_setting (step.unsigned next refl) refl) refl) refl) refl
   where
     no-name-of-sign : (n : Text) (us : Tokens) → ¬ name (token.Sign sign.Equal ∷ token.Number (codes "1") ∷ []) n us
     no-name-of-sign n us (inl (bare, free)) = let same = bare.tokens in cc

@@ -22,7 +22,6 @@ use Rattle.sql_expr.specs.Lines as lines
 use Rattle.sql_expr.specs.Grammar as expression
 use Rattle.sql_reader_query.specs.Lists as spec_lists
 use Rattle.sql_reader_query.specs.Outputs as spec
-use Rattle.sql_reader.specs.Grammar as grammar
 use Rattle.sql_expr.proofs.LineWords as words
 use Rattle.sql_expr.proofs.Heads.{Barred, Head, clear, all_avoid, begins-clear, and-left, and-right}
 use Rattle.sql_expr.proofs.Agreement.{Agrees, bar_word, sign-seen, agrees-pure, agrees-bind, agrees-same, agrees-word, agrees-sign, agrees-expect_sign, eaten, two-tokens}

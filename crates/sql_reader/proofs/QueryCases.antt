@@ -20,16 +20,16 @@ closes {rule = rule} {ts = ts} {us = us} {y = y} same end spelt = subst (λ z. S
 
 pub line-list : {rule : Rule} (P : Line (Meaning rule)) → ((ts : Tokens) (x : Meaning rule) (us : Tokens) → Spells rule ts x us → P ts x us)
     → {ts us : Tokens} {xs : List (Meaning rule)} → Spells (Rule.list_of rule) ts xs us → list P ts xs us
-line-list P of {xs = xs} (Spells.last {ts = ts} {us = us} {y = y} one same) = last-separated (mark sign.Comma) P ts us y xs (of ts y us one) same
-line-list P of {xs = xs} (Spells.next {ts = ts} {a = a} {b = b} {us = us} {y = y} {ys = ys} one comma more same) =
+line-list P of {xs = xs} (Spells.last_item {ts = ts} {us = us} {y = y} one same) = last-separated (mark sign.Comma) P ts us y xs (of ts y us one) same
+line-list P of {xs = xs} (Spells.next_item {ts = ts} {a = a} {b = b} {us = us} {y = y} {ys = ys} one comma more same) =
     next-separated (mark sign.Comma) P ts a b us y ys xs (of ts y a one) comma (line-list P of more) same
 
 pub case-list : {rule : Rule} (P : Line (Meaning rule)) → ((ts : Tokens) (x : Meaning rule) (us : Tokens) → P ts x us → Spells rule ts x us)
     → (ts a b us : Tokens) (first : Meaning rule) (others xs : List (Meaning rule)) → P ts first a → many (mark sign.Comma >> P) a others b → xs ≡ first ∷ others → us ≡ b
     → Spells (Rule.list_of rule) ts xs us
 case-list {rule = rule} P of ts a b us first others xs front more same end =
-    list-of (mark sign.Comma) P (λ vs ys ws. Spells (Rule.list_of rule) vs ys ws) (λ vs ws y ys one all. Spells.last (of vs y ws one) all)
-    (λ vs c d ws y ys zs one comma rest all. Spells.next (of vs y c one) comma rest all) ts a b us first others xs front more same end
+    list-of (mark sign.Comma) P (λ vs ys ws. Spells (Rule.list_of rule) vs ys ws) (λ vs ws y ys one all. Spells.last_item (of vs y ws one) all)
+    (λ vs c d ws y ys zs one comma rest all. Spells.next_item (of vs y c one) comma rest all) ts a b us first others xs front more same end
 
 pub line-repeated : {rule : Rule} (P : Line (Meaning rule)) → ((ts : Tokens) (x : Meaning rule) (us : Tokens) → Spells rule ts x us → P ts x us)
     → {ts us : Tokens} {xs : List (Meaning rule)} → Spells (Rule.repeated rule) ts xs us → many P ts xs us
@@ -45,11 +45,11 @@ case-repeated P of ts (x ∷ xs) us (a, one, more) = Spells.one_more (of ts x a 
 
 pub line-relation : {ts us : Tokens} {x : QName} → Spells Rule.relation ts x us → line.relation ts x us
 unfolding line.relation
-line-relation (Spells.related q) = (_, _, q, (refl, refl))
+line-relation (Spells.named_relation q) = (_, _, q, (refl, refl))
 
 pub case-relation : (ts : Tokens) (x : QName) (us : Tokens) → line.relation ts x us → Spells Rule.relation ts x us
 unfolding line.relation
-case-relation ts x us (q, a, spelt, (same, end)) = closes same end (Spells.related spelt)
+case-relation ts x us (q, a, spelt, (same, end)) = closes same end (Spells.named_relation spelt)
 
 line-names : {ts us : Tokens} {x : List Text} → Spells Rule.names ts x us → list name ts x us
 line-names {x = x} (Spells.last_name {ts = ts} {us = us} {n = n} one same) = last-separated (mark sign.Comma) name ts us n x one same
@@ -291,12 +291,12 @@ case-value ts x us (inr (y, a, expr, (same, end))) = closes same end (Spells.com
 
 line-row : {ts us : Tokens} {x : List NewValue} → Spells Rule.row ts x us → line.row ts x us
 unfolding line.row
-line-row (Spells.valued opened values closed) = (_, _, opened, (_, _, line-list line.value (λ ts x us. line-value) values, (_, _, closed, (refl, refl))))
+line-row (Spells.row_of_values opened values closed) = (_, _, opened, (_, _, line-list line.value (λ ts x us. line-value) values, (_, _, closed, (refl, refl))))
 
 case-row : (ts : Tokens) (x : List NewValue) (us : Tokens) → line.row ts x us → Spells Rule.row ts x us
 unfolding line.row
 case-row ts x us (u, a, opened, (vs, b, (first, c, front, (others, d, more, (all, last))), (v, e, closed, (same, end)))) =
-    closes same end (Spells.valued opened (case-list line.value case-value a c d b first others vs front more all last) closed)
+    closes same end (Spells.row_of_values opened (case-list line.value case-value a c d b first others vs front more all last) closed)
 
 pub line-insert : {ts us : Tokens} {x : InsertTree} → Spells Rule.insert ts x us → (key "insert" >> line.insertion) ts x us
 unfolding line.insertion

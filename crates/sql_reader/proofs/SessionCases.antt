@@ -8,7 +8,7 @@ use Rattle.q_base.specs.declared.settings.{Setting.Setting, SetValue.SetValue}
 use Rattle.sql_expr.specs.Lines.{Tokens}
 use Rattle.sql_expr.specs.Grammar.{expression}
 use Rattle.sql_reader.specs.Grammar.{Rule, Spells}
-use Rattle.sql_expr.proofs.LineWords.{any, list}
+use Rattle.sql_expr.proofs.LineWords.{any}
 use Rattle.sql_reader.proofs.CommandLines as line
 use Rattle.sql_reader.proofs.QueryCases.{closes, line-list, case-list, line-optional_names, case-optional_names, line-numeral, case-numeral, line-statement, case-statement}
 
@@ -99,7 +99,7 @@ unfolding line.fetch_tree
 line-fetch_tree (Spells.of_cursor o b motion from cursor) = (_, _, line-optional_motion motion, (_, _, from, (_, _, cursor, (refl, refl))))
   where
     line-optional_motion : {ts us : Tokens} {x : Motion} → Spells Rule.optional_motion ts x us → line.optional_motion ts x us
-    line-optional_motion (Spells.moved_so motion) = inl (line-motion motion)
+    line-optional_motion (Spells.some_motion motion) = inl (line-motion motion)
     line-optional_motion (Spells.no_motion none same) = inr (_, _, none, (same, refl))
 
 pub case-fetch_tree : (ts : Tokens) (x : FetchTree) (us : Tokens) → line.fetch_tree ts x us → Spells Rule.fetch_tree ts x us
@@ -107,7 +107,7 @@ unfolding line.fetch_tree
 case-fetch_tree ts x us (m, a, motion, (o, b, from, (n, c, cursor, (same, end)))) = closes same end (Spells.of_cursor o b (case-optional_motion ts m a motion) from cursor)
   where
     case-optional_motion : (ts : Tokens) (x : Motion) (us : Tokens) → line.optional_motion ts x us → Spells Rule.optional_motion ts x us
-    case-optional_motion ts x us (inl motion) = Spells.moved_so (case-motion ts x us motion)
+    case-optional_motion ts x us (inl motion) = Spells.some_motion (case-motion ts x us motion)
     case-optional_motion ts x us (inr (u, a, none, (same, end))) = closes same end (Spells.no_motion none refl)
 
 -- ---- settings

@@ -233,14 +233,14 @@ Meaning command = Command
 
 pub data Spells : (rule : Rule) → Tokens → Meaning rule → Tokens → Type 0 where
   -- lists, with commas between, and without
-  last : {r : Rule} {ts us : Tokens} {y : Meaning r} {x : List (Meaning r)} → Spells r ts y us → x ≡ y ∷ [] → Spells (list_of r) ts x us
-  next : {r : Rule} {ts a b us : Tokens} {y : Meaning r} {ys : List (Meaning r)} {x : List (Meaning r)}
+  last_item : {r : Rule} {ts us : Tokens} {y : Meaning r} {x : List (Meaning r)} → Spells r ts y us → x ≡ y ∷ [] → Spells (list_of r) ts x us
+  next_item : {r : Rule} {ts a b us : Tokens} {y : Meaning r} {ys : List (Meaning r)} {x : List (Meaning r)}
       → Spells r ts y a → mark sign.Comma a tt b → Spells (list_of r) b ys us → x ≡ y ∷ ys → Spells (list_of r) ts x us
   no_more : {r : Rule} {ts us : Tokens} {x : List (Meaning r)} → x ≡ [] → us ≡ ts → Spells (repeated r) ts x us
   one_more : {r : Rule} {ts a us : Tokens} {y : Meaning r} {ys : List (Meaning r)} {x : List (Meaning r)}
       → Spells r ts y a → Spells (repeated r) a ys us → x ≡ y ∷ ys → Spells (repeated r) ts x us
   -- queries
-  related : {ts us : Tokens} {x : QName} → qualified ts (x.schema, x.name) us → Spells relation ts x us
+  named_relation : {ts us : Tokens} {x : QName} → qualified ts (x.schema, x.name) us → Spells relation ts x us
   last_name : {ts us : Tokens} {n : Text} {x : List Text} → name ts n us → x ≡ n ∷ [] → Spells names ts x us
   next_name : {ts a b us : Tokens} {n : Text} {ns : List Text} {x : List Text}
       → name ts n a → mark sign.Comma a tt b → Spells names b ns us → x ≡ n ∷ ns → Spells names ts x us
@@ -293,7 +293,7 @@ pub data Spells : (rule : Rule) → Tokens → Meaning rule → Tokens → Type 
   returning_outputs : {ts a us : Tokens} {x : List OutputItem} → key "returning" ts tt a → Spells (list_of output) a x us → Spells returning ts x us
   default_value : {ts us : Tokens} {x : NewValue} → key "default" ts tt us → x ≡ value_of.Default → Spells value ts x us
   computed_value : {ts us : Tokens} {y : Expr} {x : NewValue} → expression ts y us → x ≡ value_of.Expr y → Spells value ts x us
-  valued : {ts a b us : Tokens} {x : List NewValue} → mark sign.LeftParen ts tt a → Spells (list_of value) a x b → mark sign.RightParen b tt us → Spells row ts x us
+  row_of_values : {ts a b us : Tokens} {x : List NewValue} → mark sign.LeftParen ts tt a → Spells (list_of value) a x b → mark sign.RightParen b tt us → Spells row ts x us
   inserted : {ts a b c d e f us : Tokens} {x : InsertTree}
       → key "insert" ts tt a → key "into" a tt b → Spells relation b x.table c → Spells optional_names c x.columns d
       → key "values" d tt e → Spells (list_of row) e x.rows f → Spells returning f x.returning us → Spells insert ts x us
@@ -333,7 +333,7 @@ pub data Spells : (rule : Rule) → Tokens → Meaning rule → Tokens → Type 
   backward_all : {ts a us : Tokens} {x : Motion} → key "backward" ts tt a → key "all" a tt us → x ≡ moves.BackwardAll → Spells motion ts x us
   backward_count : {ts a us : Tokens} {n : ℤ} {x : Motion} → key "backward" ts tt a → Spells integer a n us → x ≡ moves.Backward (Some n) → Spells motion ts x us
   backward : {ts us : Tokens} {x : Motion} → key "backward" ts tt us → x ≡ moves.Backward None → Spells motion ts x us
-  moved_so : {ts us : Tokens} {x : Motion} → Spells motion ts x us → Spells optional_motion ts x us
+  some_motion : {ts us : Tokens} {x : Motion} → Spells motion ts x us → Spells optional_motion ts x us
   no_motion : {ts us : Tokens} {x : Motion} → unless direction ts tt us → x ≡ moves.Next → Spells optional_motion ts x us
   of_cursor : {ts a us : Tokens} {x : FetchTree} (o : Option (Unit {0})) (b : Tokens)
       → Spells optional_motion ts x.motion a → maybe (key "from" or key "in") a o b → name b x.cursor us → Spells fetch_tree ts x us
