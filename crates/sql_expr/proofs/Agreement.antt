@@ -1,4 +1,4 @@
--- A reading function agrees with a line of the grammar: what it reads is spelt so, and what is spelt so is read, whatever
+-- A reading function agrees with a line: what it reads is spelt so, and what is spelt so is read, whatever
 -- follows that can't go on with it.
 use Rattle.std.proofs.Common.{◌≡◌, ◌⊎◌, inl, inr, ⊎_elim, ℕ, suc, ◌+◌, ◌≤◌, Bool, true, false, cond, not, ◌&&◌, ◌||◌, List, [], ◌∷◌, ◌++◌, length, drop, Option, Some, None, codes, refl, sym, ap, subst, ◌∙◌, arith}
 use Rattle.std.specs.Prelude.{is_some, min}

@@ -39,7 +39,7 @@ operators = record {
   params = false;
 }
 
--- the tokens that could go on with what stands at a line of the grammar
+-- the tokens that could go on with what stands at a line
 abbrev primary_tail : Barred
 primary_tail = record { words = []; signs = sign.LeftParen ∷ sign.Dot ∷ []; names = false; numbers = false; strings = false; params = false }
 

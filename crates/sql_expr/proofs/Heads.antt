@@ -1,4 +1,4 @@
--- What can come next: the heads with which a line of the grammar begins, and the tokens that would go on with it.
+-- What can come next: the heads with which a line begins, and the tokens that would go on with it.
 use Rattle.std.proofs.Common.{◌≡◌, Bool, true, false, cond, not, ◌&&◌, ◌||◌, List, [], ◌∷◌, ◌++◌, Some, None, refl, sym, ap, subst}
 use Rattle.std.specs.Prelude.{is_some}
 use Rattle.std.specs.List.{list_any, list_all}

@@ -1,4 +1,4 @@
--- Expressions, a reading function for each line of their grammar.
+-- Expressions, a reading function for each rule of their grammar.
 use Rattle.std.specs.Prelude.{ℕ, zero, suc, Bool, List, [], ◌∷◌, length, Option, Some, None, codes, if◌then◌else◌}
 use Rattle.sql_tokens.specs.declared.token.Sign.TheVariants as sign
 use Rattle.sql_tree.specs.declared.expr.Arithmetic.{Arithmetic}
@@ -29,7 +29,7 @@ grouped_from operator operand (suc n) left = do
 abbrev pub grouped : Parser (Option Arithmetic) → Parser Expr → Expr → Parser Expr
 grouped operator operand left = λ ts. grouped_from operator operand (length ts) left ts
 
--- The reading function of nested expressions stands for the lines of the grammar that lead back up.
+-- The reading function of nested expressions stands for the rules of the grammar that lead back up.
 module _ (deeper : Level → Parser Expr) where
   -- behind `(`
   unfoldable pub parenthesized : Parser Expr
@@ -146,7 +146,7 @@ module _ (deeper : Level → Parser Expr) where
     more ← eat_word (codes "or")
     if more then e.Or <$> disjuncts first else pure first
 
--- an expression at a line of the grammar, within which others are nested no deeper than the number
+-- an expression at a rule of the grammar, within which others are nested no deeper than the number
 unfoldable pub nested : ℕ → Level → Parser Expr
 nested zero level = refuse
 nested (suc depth) Whole = disjunction (nested depth)

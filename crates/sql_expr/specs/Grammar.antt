@@ -1,4 +1,4 @@
--- The grammar of expressions: which tokens spell one. Each case of `Spells` is an alternative of a line.
+-- The grammar of expressions: which tokens spell one. Each case of `Spells` is an alternative of a rule.
 use Rattle.std.specs.Prelude.{◌≡◌, ◌⊎◌, ◌<◌, Bool, true, false, List, [], ◌∷◌, length, Option, Some, None}
 use Rattle.sql_tokens.specs.declared.token.Sign.TheVariants as sign
 use Rattle.sql_tree.specs.declared.names.ColumnRef.{ColumnRef}
@@ -39,7 +39,7 @@ operation f [] = f []
 operation f (x ∷ []) = x
 operation f (x ∷ y ∷ more) = f (x ∷ y ∷ more)
 
--- ---- the lines, those of one expression and those of lists
+-- ---- the rules, those of one expression and those of lists
 
 pub data Rule : Type 0 where
   primary : Rule

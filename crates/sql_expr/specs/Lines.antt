@@ -1,4 +1,4 @@
--- What the lines of a grammar are made of. A line says of tokens what they spell, and which tokens stand behind that.
+-- The words in which the grammar says what tokens alone spell. A line says of tokens what they spell, and which tokens stand behind that.
 use Rattle.std.specs.Prelude.{◌≡◌, ◌≢◌, ◌⊎◌, ℕ, Bool, true, false, List, [], ◌∷◌, All, Option, Some, None, codes}
 use Prim.Native.String.{String}
 use Rattle.sql_tokens.specs.declared.token.Token.{Token}
@@ -65,7 +65,7 @@ ahead {A = A} P ts u us = (us ≡ ts) × ((a : A) × (vs : Tokens) × P ts a vs)
 abbrev pub unless : {A : Type 0} → Line A → Line (Unit {0})
 unless {A = A} P ts u us = (us ≡ ts) × ((a : A) (vs : Tokens) → ¬ P ts a vs)
 
--- ---- lines one behind another, one or another, and lists
+-- ---- lines one behind another, one or another, and repetitions
 
 infixl 10 ◌>>=◌
 abbrev pub ◌>>=◌ : {A B : Type 0} → Line A → (A → Line B) → Line B

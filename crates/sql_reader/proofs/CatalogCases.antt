@@ -3,7 +3,7 @@ use Rattle.std.proofs.Common.{inl, inr, Bool, true, false, refl, ap, ◌∙◌}
 use Rattle.sql_tree.specs.declared.catalog.{AlterAction.AlterAction, ColumnDef.ColumnDef, IndexTree.IndexTree, TableElement.TableElement, TableTree.TableTree, TempTableTree.TempTableTree, ViewTree.ViewTree}
 use Rattle.sql_tree.specs.declared.expr.{Literal.Literal}
 use Rattle.sql_tree.specs.declared.expr.Literal.TheVariants as literal
-use Rattle.sql_expr.specs.Lines.{Tokens, Line, ◌>>=◌, ◌>>◌, name, key, said}
+use Rattle.sql_expr.specs.Lines.{Tokens, Line, ◌>>=◌, ◌>>◌, key, said}
 use Rattle.sql_expr.specs.Grammar.{column}
 use Rattle.sql_reader.specs.Grammar.{Part, Rule, Spells, nullability_of, default_of}
 use Rattle.sql_reader.proofs.CommandLines as line
@@ -43,7 +43,7 @@ case-part with_keys ts x us (inr (inr (inr keyed))) = by with_keys keyed
 
 line-column_def : {with_keys : Bool} {ts us : Tokens} {x : ColumnDef} → Spells (Rule.column_def with_keys) ts x us → line.column_def with_keys ts x us
 unfolding line.column_def
-line-column_def {with_keys = with_keys} {x = x} (Spells.defined {parts = ps} a b one type parts none nullability default keys) = (
+line-column_def {with_keys = with_keys} {x = x} (Spells.column_defined {parts = ps} a b one type parts none nullability default keys) = (
   _,
   _,
   one,
@@ -73,7 +73,7 @@ line-column_def {with_keys = with_keys} {x = x} (Spells.defined {parts = ps} a b
 case-column_def : (with_keys : Bool) (ts : Tokens) (x : ColumnDef) (us : Tokens) → line.column_def with_keys ts x us → Spells (Rule.column_def with_keys) ts x us
 unfolding line.column_def
 case-column_def with_keys ts x us (n, a, one, (t, b, type, (ps, c, parts, (u, d, (here, none), (same, end))))) =
-    closes same (end ∙ here) (Spells.defined a b one type (case-repeated (line.part with_keys) (case-part with_keys) b ps c parts) none refl refl refl)
+    closes same (end ∙ here) (Spells.column_defined a b one type (case-repeated (line.part with_keys) (case-part with_keys) b ps c parts) none refl refl refl)
 
 line-element : {ts us : Tokens} {x : TableElement} → Spells Rule.element ts x us → line.element ts x us
 unfolding line.element
@@ -111,17 +111,17 @@ index_line = said "unique" >>= (λ unique. key "index" >> line.index unique)
 
 pub line-index : {ts us : Tokens} {x : IndexTree} → Spells Rule.index ts x us → index_line ts x us
 unfolding line.index
-line-index (Spells.indexed unique word one on table columns) =
+line-index (Spells.index_defined unique word one on table columns) =
     (_, _, unique, (_, _, word, (_, _, one, (_, _, on, (_, _, line-relation table, (_, _, line-parenthesized_names columns, (refl, refl)))))))
 
 pub case-index : (ts : Tokens) (x : IndexTree) (us : Tokens) → index_line ts x us → Spells Rule.index ts x us
 unfolding line.index
 case-index ts x us (un, a, unique, (u, b, word, (n, c, one, (v, d, on, (q, e, table, (ns, f, columns, (same, end))))))) =
-    closes same end (Spells.indexed unique word one on (case-relation d q e table) (case-parenthesized_names e ns f columns))
+    closes same end (Spells.index_defined unique word one on (case-relation d q e table) (case-parenthesized_names e ns f columns))
 
 pub line-view : {ts us : Tokens} {x : ViewTree} → Spells Rule.view ts x us → line.view ts x us
 unfolding line.view
-line-view {x = x} (Spells.viewed replaced word made columns as_word select same) = (
+line-view {x = x} (Spells.view_defined replaced word made columns as_word select same) = (
   _,
   _,
   replaced,
@@ -136,7 +136,7 @@ line-view {x = x} (Spells.viewed replaced word made columns as_word select same)
 pub case-view : (ts : Tokens) (x : ViewTree) (us : Tokens) → line.view ts x us → Spells Rule.view ts x us
 unfolding line.view
 case-view ts x us (r, a, replaced, (u, b, word, (q, c, made, (ns, d, columns, (v, e, as_word, (s, f, select, (same, end))))))) =
-    closes same end (Spells.viewed replaced word (case-relation b q c made) (case-optional_names c ns d columns) as_word (case-select e s f select) refl)
+    closes same end (Spells.view_defined replaced word (case-relation b q c made) (case-optional_names c ns d columns) as_word (case-select e s f select) refl)
 
 pub line-action : {ts us : Tokens} {x : AlterAction} → Spells Rule.action ts x us → line.action ts x us
 unfolding line.action line.change

@@ -3,7 +3,7 @@ use Rattle.std.proofs.Common.{inl, inr, refl, ap, subst, ◌∙◌}
 use Rattle.sql_tree.specs.declared.command.Command.{Command}
 use Rattle.sql_tree.specs.declared.command.Command.TheVariants as command
 use Rattle.sql_tree.specs.declared.statement.Statement.TheVariants as statement
-use Rattle.sql_expr.specs.Lines.{Tokens, name, key}
+use Rattle.sql_expr.specs.Lines.{Tokens, key}
 use Rattle.sql_reader.specs.Grammar.{Rule, Spells}
 use Rattle.sql_reader.proofs.CatalogCases.{line-table, case-table, line-temp_table, case-temp_table, line-index, case-index, line-view, case-view, line-action, case-action}
 use Rattle.sql_reader.proofs.CommandLines as line

@@ -1,5 +1,5 @@
--- The lines of commands in the order in which they are read, behind the leading word.
-use Rattle.std.specs.Prelude.{◌<◌, ◌+◌, ◌-◌, ℤ, pos, neg_ℤ, Bool, true, false, not, List, ◌++◌, Option, Some, None, codes, if◌then◌else◌}
+-- The lines of commands in the order in which they are read, behind the leading word where they have one of their own.
+use Rattle.std.specs.Prelude.{ℤ, pos, neg_ℤ, Bool, true, false, List, Option, Some, None}
 use Rattle.q_base.specs.declared.{settings.Setting.Setting, settings.SetValue.SetValue}
 use Rattle.q_base.specs.declared.settings.SetValue.TheVariants as set_to
 use Rattle.sql_tokens.specs.declared.token.Sign.TheVariants as sign
@@ -20,7 +20,7 @@ use Rattle.sql_tree.specs.declared.catalog.AlterAction.TheVariants as alteration
 use Rattle.sql_tree.specs.declared.catalog.SchemaCommand.TheVariants as schema
 use Rattle.sql_expr.specs.Lines.{Text, Line, ◌>>=◌, ◌>>◌, ◌<$>◌, ◌or◌, gives, name, number, parameter, key, mark, unless, before, maybe, said, many}
 use Rattle.sql_expr.specs.Grammar.{literal, qualified, column, expression}
-use Rattle.sql_reader.specs.Grammar.{distinct, descending, nulls_first, current_of, deallocated, unsigned_integer, cursor_option, gathered, hold, direction, work, savepoint_name, scope, setting_text, on_commit, object_kind, cascaded, change_begun, backslash, Changed, Part, none_twice, nullability_of, default_of, keys_of}
+use Rattle.sql_reader.specs.Grammar.{distinct, descending, nulls_first, current_of, deallocated, unsigned_integer, cursor_option, gathered, hold, direction, work, savepoint_name, scope, setting_text, on_commit, object_kind, cascaded, change_begun, backslash, Changed, Part, none_twice, nullability_of, default_of, keys_of, or_replace, written_number}
 use Rattle.sql_expr.proofs.LineWords.{nowhere, provided, any, list, parenthesized}
 
 -- ---- queries
@@ -194,7 +194,7 @@ abort = work >> gives command_of.Rollback
 -- a number as it is written, with the minus directly before it
 unfoldable pub setting : Line Setting
 setting = (λ text. record { text = text; number = false }) <$> setting_text
-    or (λ n. record { text = if n.negative then codes "-" ++ n.digits else n.digits; number = true }) <$> numeral
+    or (λ n. record { text = written_number n; number = true }) <$> numeral
 
 abbrev pub set_value : Line SetValue
 set_value = key "default" >> gives set_to.Default or set_to.List <$> list setting
@@ -239,7 +239,7 @@ unfoldable pub index : Bool → Line IndexTree
 index unique = do named ← name; key "on"; indexed ← relation; columns ← parenthesized_names; gives (record { name = named; unique = unique; table = indexed; columns = columns })
 
 unfoldable pub view : Line ViewTree
-view = do replace ← key "or" >> (key "replace" >> gives true) or gives false; key "view"; named ← relation; columns ← any parenthesized_names; key "as"; query ← select; gives (record { name = named; replace = replace; columns = columns; query = statement_of.ViewSelect query })
+view = do replace ← or_replace; key "view"; named ← relation; columns ← any parenthesized_names; key "as"; query ← select; gives (record { name = named; replace = replace; columns = columns; query = statement_of.ViewSelect query })
 
 unfoldable pub create : Line Command
 create = key "schema" >> (λ made. command_of.Schema (schema.Create made)) <$> name

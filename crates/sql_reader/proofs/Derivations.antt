@@ -22,7 +22,7 @@ use Rattle.sql_expr.specs.Grammar.{Rule, Spells, expression, qualified, column}
 use Rattle.sql_expr.proofs.TokenKinds.{stands-name}
 use Rattle.sql_expr.proofs.ExpressionCases.{name-takes}
 use Rattle.sql_reader.specs.Examples.{number, column as column_named, relation, item, selected, computed, altered, plain}
-use Rattle.sql_reader.specs.Grammar.{SpellsAll, Spells as step}
+use Rattle.sql_reader.specs.Grammar.{SpellsAll, Spells as spelt_by}
 use Rattle.sql_reader.specs.Grammar as grammar
 
 -- ---- tokens, names, numbers
@@ -39,7 +39,7 @@ named n us free = stands-name.there (w n ∷ us) (codes n) us (w n, next, free)
 -- a name alone, of a relation and of a column
 a-relation : (n : String) (us : Tokens) → name_of (w n) ≡ Some (codes n) → grammar.Spells grammar.Rule.relation (w n ∷ us) (relation (codes n)) us
 unfolding qualified
-a-relation n us free = step.named_relation (inr (codes n, us, named n us free, (refl, refl)))
+a-relation n us free = spelt_by.named_relation (inr (codes n, us, named n us free, (refl, refl)))
 
 a-column : (n : String) (us : Tokens) → name_of (w n) ≡ Some (codes n) → Spells Rule.primary (w n ∷ us) (column_named (codes n)) us
 unfolding qualified column
@@ -71,12 +71,12 @@ expression-of spelt = conjunction-of (Spells.conjoined (Spells.last_negation spe
 a-select : (ts us : Tokens) (given : OutputItem) (from : List FromChain) → grammar.Spells grammar.Rule.output ts given us → grammar.Spells grammar.Rule.from us from []
     → SpellsAll (w "select" ∷ ts) (selected given from)
 unfolding grammar.distinct
-a-select ts us given from front chains = step.select_command (step.selected next (inr (inr (refl, refl))) (step.last_item front refl) chains
-    (step.no_condition refl refl) (step.ungrouped refl refl) (step.no_having refl refl) (step.unordered refl refl)
-    (step.limit_first (step.no_limit refl refl) (step.no_offset refl refl))) refl
+a-select ts us given from front chains = spelt_by.select_command (spelt_by.selected next (inr (inr (refl, refl))) (spelt_by.last_one front refl) chains
+    (spelt_by.no_condition refl refl) (spelt_by.ungrouped refl refl) (spelt_by.no_having refl refl) (spelt_by.unordered refl refl)
+    (spelt_by.limit_first (spelt_by.no_limit refl refl) (spelt_by.no_offset refl refl))) refl
 
 a-computed : (ts : Tokens) (x : Expr) → expression ts x [] → SpellsAll (w "select" ∷ ts) (computed x)
-a-computed ts x spelt = a-select ts [] (output.Expr x None) [] (step.computed spelt (step.no_alias refl refl) refl) (step.no_from refl refl)
+a-computed ts x spelt = a-select ts [] (output.Expr x None) [] (spelt_by.expression_output spelt (spelt_by.no_alias refl refl) refl) (spelt_by.no_from refl refl)
 
 -- ---- the tokens of each text (`in_..`), and the derivation
 
@@ -109,7 +109,7 @@ not_of_a_comparison = a-computed _ _ (expression-of (Spells.negated next (negati
 
 -- SELECT * FROM a JOIN b ON c CROSS JOIN d
 an-item : (n : String) (us : Tokens) → name_of (w n) ≡ Some (codes n) → grammar.Spells grammar.Rule.item (w n ∷ us) (item (codes n)) us
-an-item n us free = step.from_relation (a-relation n us free) (step.no_alias refl refl)
+an-item n us free = spelt_by.relation_item (a-relation n us free) (spelt_by.no_alias refl refl)
 
 abbrev pub in_chain_of_joins : Tokens
 in_chain_of_joins = w "select" ∷ token.Sign sign.Star ∷ w "from" ∷ w "a" ∷ w "join" ∷ w "b" ∷ w "on" ∷ w "c" ∷ w "cross" ∷ w "join" ∷ w "d" ∷ []
@@ -117,21 +117,21 @@ in_chain_of_joins = w "select" ∷ token.Sign sign.Star ∷ w "from" ∷ w "a" �
 pub chain_of_joins : SpellsAll in_chain_of_joins
     (selected output.All (record { first = item (codes "a"); joins = join.Inner (item (codes "b")) (column_named (codes "c")) ∷ join.Cross (item (codes "d")) ∷ [] } ∷ []))
 unfolding is_reserved
-chain_of_joins = a-select _ _ output.All _ (step.every_column next refl) (step.from_chains next (step.last_item (step.chained (an-item "a" _ refl)
-    (step.one_more (step.inner_joined false (inr (refl, refl)) next (an-item "b" _ refl) next (expression-of (negation-of (Spells.only_membership (membership-of (a-column "c" _ refl))))) refl)
-    (step.one_more (step.cross_joined next next (an-item "d" _ refl) refl) (step.no_more refl refl) refl) refl)) refl))
+chain_of_joins = a-select _ _ output.All _ (spelt_by.every_column next refl) (spelt_by.from_chains next (spelt_by.last_one (spelt_by.chained (an-item "a" _ refl)
+    (spelt_by.one_more (spelt_by.inner_joined false (inr (refl, refl)) next (an-item "b" _ refl) next (expression-of (negation-of (Spells.only_membership (membership-of (a-column "c" _ refl))))) refl)
+    (spelt_by.one_more (spelt_by.cross_joined next next (an-item "d" _ refl) refl) (spelt_by.no_more refl refl) refl) refl)) refl))
 
 -- ---- a word that may be keyword and name: what follows tells which it is
 
 a-column_def : (n t : String) → name_of (w n) ≡ Some (codes n) → name_of (w t) ≡ Some (codes t)
     → grammar.Spells (grammar.Rule.column_def false) (w n ∷ w t ∷ []) (record { name = codes n; type_name = codes t; nullability = nullability.Unsaid; default = None; keys = [] }) []
-a-column_def n t free typed = step.defined _ _ (named n (w t ∷ []) free) (named t [] typed) (step.no_more refl refl) refl refl refl refl
+a-column_def n t free typed = spelt_by.column_defined _ _ (named n (w t ∷ []) free) (named t [] typed) (spelt_by.no_more refl refl) refl refl refl refl
 
 an-addition : (ts us : Tokens) (n : String) → before "column" (lines.◌>>◌ name name) ts tt us
     → grammar.Spells (grammar.Rule.column_def false) us (record { name = codes n; type_name = codes "int"; nullability = nullability.Unsaid; default = None; keys = [] }) []
     → SpellsAll (w "alter" ∷ w "table" ∷ w "t" ∷ w "add" ∷ ts) (altered (codes "t") (plain (codes n)))
 unfolding is_reserved
-an-addition ts us n word defined = step.table_altered next next (a-relation "t" _ refl) (step.column_added next word defined refl) refl
+an-addition ts us n word defined = spelt_by.table_altered next next (a-relation "t" _ refl) (spelt_by.column_added next word defined refl) refl
 
 -- ALTER TABLE t ADD column int
 abbrev pub in_column_as_name : Tokens
@@ -162,7 +162,7 @@ in_savepoint_as_name = w "release" ∷ w "savepoint" ∷ []
 
 pub savepoint_as_name : SpellsAll in_savepoint_as_name (command.Release (codes "savepoint"))
 unfolding is_reserved
-savepoint_as_name = step.released next (tt, _, inr (refl, λ n us spelt. no-name n us spelt), named "savepoint" [] refl) refl
+savepoint_as_name = spelt_by.released next (tt, _, inr (refl, λ n us spelt. no-name n us spelt), named "savepoint" [] refl) refl
   where
     no-name : (n : Text) (us : Tokens) → ¬ (lines.◌>>◌ (key "savepoint") name) (w "savepoint" ∷ []) n us
     no-name n us (u, a, word, spelt) =
@@ -176,8 +176,8 @@ in_local_as_name = w "set" ∷ w "local" ∷ token.Sign sign.Equal ∷ token.Num
 
 pub local_as_name : SpellsAll in_local_as_name (command.Set (record { name = codes "local"; local = false; value = value.List (record { text = codes "1"; number = true } ∷ []) }))
 unfolding is_reserved
-local_as_name = step.setting_set _ _ next (inr (inr (tt, _, (refl, λ n us spelt. no-scope n us spelt), (refl, refl)))) (named "local" _ refl) (inr next)
-    (step.set_to_list (step.last_item (step.number_setting (step.unsigned next refl) refl) refl) refl) refl
+local_as_name = spelt_by.setting_set _ _ next (inr (inr (tt, _, (refl, λ n us spelt. no-scope n us spelt), (refl, refl)))) (named "local" _ refl) (inr next)
+    (spelt_by.set_to_list (spelt_by.last_one (spelt_by.number_setting (spelt_by.plain_numeral next refl) refl) refl) refl) refl
   where
     no-name-of-sign : (n : Text) (us : Tokens) → ¬ name (token.Sign sign.Equal ∷ token.Number (codes "1") ∷ []) n us
     no-name-of-sign n us (inl (bare, free)) = let same = bare.tokens in cc
@@ -195,7 +195,7 @@ in_prepare_as_name = w "deallocate" ∷ w "prepare" ∷ []
 
 pub prepare_as_name : SpellsAll in_prepare_as_name (command.Deallocate (codes "prepare"))
 unfolding is_reserved
-prepare_as_name = step.deallocating _ next (inr (refl, λ c us spelt. no-target c us spelt)) (inr (codes "prepare", [], named "prepare" [] refl, (refl, refl)))
+prepare_as_name = spelt_by.deallocating _ next (inr (refl, λ c us spelt. no-target c us spelt)) (inr (codes "prepare", [], named "prepare" [] refl, (refl, refl)))
   where
     no-target : (c : _) (us : Tokens) → ¬ (lines.◌>>◌ (key "prepare") grammar.deallocated) (w "prepare" ∷ []) c us
     no-target c us (u, a, word, inl (v, b, all, end)) =
@@ -214,8 +214,8 @@ in_current_as_column = w "delete" ∷ w "from" ∷ w "t" ∷ w "where" ∷ w "cu
 pub current_as_column : SpellsAll in_current_as_column
     (command.Statement (statement.Delete (record { table = relation (codes "t"); condition = Some (e.Comparison comparison.Equal (column_named (codes "current")) (number false (codes "1"))); returning = [] })))
 unfolding is_reserved
-current_as_column = step.searched_command (step.deleted next next (a-relation "t" _ refl) refl) (refl, λ u us spelt. no-cursor u us spelt)
-    (step.conditioned next compared refl) (step.returning_nothing refl refl) refl
+current_as_column = spelt_by.searched_command (spelt_by.deleted next next (a-relation "t" _ refl) refl) (refl, λ u us spelt. no-cursor u us spelt)
+    (spelt_by.conditioned next compared refl) (spelt_by.returning_nothing refl refl) refl
   where
     compared : expression (w "current" ∷ token.Sign sign.Equal ∷ token.Number (codes "1") ∷ []) (e.Comparison comparison.Equal (column_named (codes "current")) (number false (codes "1"))) []
     compared = expression-of (negation-of (Spells.compared (membership-of (a-column "current" _ refl)) (inl (tt, _, next, (refl, refl))) (membership-of (a-number _ _)) refl))

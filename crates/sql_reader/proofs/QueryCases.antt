@@ -20,16 +20,16 @@ closes {rule = rule} {ts = ts} {us = us} {y = y} same end spelt = subst (λ z. S
 
 pub line-list : {rule : Rule} (P : Line (Meaning rule)) → ((ts : Tokens) (x : Meaning rule) (us : Tokens) → Spells rule ts x us → P ts x us)
     → {ts us : Tokens} {xs : List (Meaning rule)} → Spells (Rule.list_of rule) ts xs us → list P ts xs us
-line-list P of {xs = xs} (Spells.last_item {ts = ts} {us = us} {y = y} one same) = last-separated (mark sign.Comma) P ts us y xs (of ts y us one) same
-line-list P of {xs = xs} (Spells.next_item {ts = ts} {a = a} {b = b} {us = us} {y = y} {ys = ys} one comma more same) =
+line-list P of {xs = xs} (Spells.last_one {ts = ts} {us = us} {y = y} one same) = last-separated (mark sign.Comma) P ts us y xs (of ts y us one) same
+line-list P of {xs = xs} (Spells.next_one {ts = ts} {a = a} {b = b} {us = us} {y = y} {ys = ys} one comma more same) =
     next-separated (mark sign.Comma) P ts a b us y ys xs (of ts y a one) comma (line-list P of more) same
 
 pub case-list : {rule : Rule} (P : Line (Meaning rule)) → ((ts : Tokens) (x : Meaning rule) (us : Tokens) → P ts x us → Spells rule ts x us)
     → (ts a b us : Tokens) (first : Meaning rule) (others xs : List (Meaning rule)) → P ts first a → many (mark sign.Comma >> P) a others b → xs ≡ first ∷ others → us ≡ b
     → Spells (Rule.list_of rule) ts xs us
 case-list {rule = rule} P of ts a b us first others xs front more same end =
-    list-of (mark sign.Comma) P (λ vs ys ws. Spells (Rule.list_of rule) vs ys ws) (λ vs ws y ys one all. Spells.last_item (of vs y ws one) all)
-    (λ vs c d ws y ys zs one comma rest all. Spells.next_item (of vs y c one) comma rest all) ts a b us first others xs front more same end
+    list-of (mark sign.Comma) P (λ vs ys ws. Spells (Rule.list_of rule) vs ys ws) (λ vs ws y ys one all. Spells.last_one (of vs y ws one) all)
+    (λ vs c d ws y ys zs one comma rest all. Spells.next_one (of vs y c one) comma rest all) ts a b us first others xs front more same end
 
 pub line-repeated : {rule : Rule} (P : Line (Meaning rule)) → ((ts : Tokens) (x : Meaning rule) (us : Tokens) → Spells rule ts x us → P ts x us)
     → {ts us : Tokens} {xs : List (Meaning rule)} → Spells (Rule.repeated rule) ts xs us → many P ts xs us
@@ -91,21 +91,21 @@ line-output : {ts us : Tokens} {x : OutputItem} → Spells Rule.output ts x us �
 unfolding line.output
 line-output (Spells.every_column star same) = inl (_, _, star, (same, refl))
 line-output (Spells.every_column_of one dot star same) = inr (inl (_, _, one, (_, _, dot, (_, _, star, (same, refl)))))
-line-output (Spells.computed expr named same) = inr (inr (_, _, expr, (_, _, line-alias named, (same, refl))))
+line-output (Spells.expression_output expr named same) = inr (inr (_, _, expr, (_, _, line-alias named, (same, refl))))
 
 case-output : (ts : Tokens) (x : OutputItem) (us : Tokens) → line.output ts x us → Spells Rule.output ts x us
 unfolding line.output
 case-output ts x us (inl (u, a, star, (same, end))) = closes same end (Spells.every_column star refl)
 case-output ts x us (inr (inl (n, a, one, (u, b, dot, (v, c, star, (same, end)))))) = closes same end (Spells.every_column_of one dot star refl)
-case-output ts x us (inr (inr (y, a, expr, (n, b, named, (same, end))))) = closes same end (Spells.computed expr (case-alias a n b named) refl)
+case-output ts x us (inr (inr (y, a, expr, (n, b, named, (same, end))))) = closes same end (Spells.expression_output expr (case-alias a n b named) refl)
 
 line-item : {ts us : Tokens} {x : FromItem} → Spells Rule.item ts x us → line.item ts x us
 unfolding line.item
-line-item (Spells.from_relation table named) = (_, _, line-relation table, (_, _, line-alias named, (refl, refl)))
+line-item (Spells.relation_item table named) = (_, _, line-relation table, (_, _, line-alias named, (refl, refl)))
 
 case-item : (ts : Tokens) (x : FromItem) (us : Tokens) → line.item ts x us → Spells Rule.item ts x us
 unfolding line.item
-case-item ts x us (q, a, table, (n, b, named, (same, end))) = closes same end (Spells.from_relation (case-relation ts q a table) (case-alias a n b named))
+case-item ts x us (q, a, table, (n, b, named, (same, end))) = closes same end (Spells.relation_item (case-relation ts q a table) (case-alias a n b named))
 
 line-join : {ts us : Tokens} {x : Join} → Spells Rule.join ts x us → line.join ts x us
 unfolding line.join
@@ -180,15 +180,15 @@ case-order_by ts x us (inr (same, end)) = Spells.unordered same end
 
 pub line-numeral : {ts us : Tokens} {x : Numeral} → Spells Rule.numeral ts x us → line.numeral ts x us
 unfolding line.numeral
-line-numeral (Spells.unsigned digits same) = (false, _, inr (refl, refl), (_, _, digits, (same, refl)))
-line-numeral (Spells.signed minus digits same) = (true, _, inl (tt, _, minus, (refl, refl)), (_, _, digits, (same, refl)))
+line-numeral (Spells.plain_numeral digits same) = (false, _, inr (refl, refl), (_, _, digits, (same, refl)))
+line-numeral (Spells.negative_numeral minus digits same) = (true, _, inl (tt, _, minus, (refl, refl)), (_, _, digits, (same, refl)))
 
 pub case-numeral : (ts : Tokens) (x : Numeral) (us : Tokens) → line.numeral ts x us → Spells Rule.numeral ts x us
 unfolding line.numeral
 case-numeral ts x us (k, a, inl (u, b, minus, (is, here)), (d, c, digits, (same, end))) =
-    closes (same ∙ ap (λ negative. record { negative = negative; digits = d }) is) end (Spells.signed minus (subst (λ vs. number vs d c) here digits) refl)
+    closes (same ∙ ap (λ negative. record { negative = negative; digits = d }) is) end (Spells.negative_numeral minus (subst (λ vs. number vs d c) here digits) refl)
 case-numeral ts x us (k, a, inr (is, here), (d, c, digits, (same, end))) =
-    closes (same ∙ ap (λ negative. record { negative = negative; digits = d }) is) end (Spells.unsigned (subst (λ vs. number vs d c) here digits) refl)
+    closes (same ∙ ap (λ negative. record { negative = negative; digits = d }) is) end (Spells.plain_numeral (subst (λ vs. number vs d c) here digits) refl)
 
 line-count : {ts us : Tokens} {x : RowCount} → Spells Rule.count ts x us → line.count ts x us
 unfolding line.count
@@ -282,12 +282,12 @@ case-returning ts x us (inr (same, end)) = Spells.returning_nothing same end
 line-value : {ts us : Tokens} {x : NewValue} → Spells Rule.value ts x us → line.value ts x us
 unfolding line.value
 line-value (Spells.default_value word same) = inl (_, _, word, (same, refl))
-line-value (Spells.computed_value expr same) = inr (_, _, expr, (same, refl))
+line-value (Spells.expression_value expr same) = inr (_, _, expr, (same, refl))
 
 case-value : (ts : Tokens) (x : NewValue) (us : Tokens) → line.value ts x us → Spells Rule.value ts x us
 unfolding line.value
 case-value ts x us (inl (u, a, word, (same, end))) = closes same end (Spells.default_value word refl)
-case-value ts x us (inr (y, a, expr, (same, end))) = closes same end (Spells.computed_value expr refl)
+case-value ts x us (inr (y, a, expr, (same, end))) = closes same end (Spells.expression_value expr refl)
 
 line-row : {ts us : Tokens} {x : List NewValue} → Spells Rule.row ts x us → line.row ts x us
 unfolding line.row

@@ -48,13 +48,13 @@ case-execute_tree ts x us (n, a, one, (ys, b, arguments, (same, end))) = closes 
 
 line-integer : {ts us : Tokens} {x : ℤ} → Spells Rule.integer ts x us → line.integer ts x us
 unfolding line.integer
-line-integer (Spells.not_negative digits same) = inl (_, _, digits, (same, refl))
-line-integer (Spells.negative minus digits same) = inr (_, _, minus, (_, _, digits, (same, refl)))
+line-integer (Spells.plain_integer digits same) = inl (_, _, digits, (same, refl))
+line-integer (Spells.negative_integer minus digits same) = inr (_, _, minus, (_, _, digits, (same, refl)))
 
 case-integer : (ts : Tokens) (x : ℤ) (us : Tokens) → line.integer ts x us → Spells Rule.integer ts x us
 unfolding line.integer
-case-integer ts x us (inl (n, a, digits, (same, end))) = closes same end (Spells.not_negative digits refl)
-case-integer ts x us (inr (u, a, minus, (n, b, digits, (same, end)))) = closes same end (Spells.negative minus digits refl)
+case-integer ts x us (inl (n, a, digits, (same, end))) = closes same end (Spells.plain_integer digits refl)
+case-integer ts x us (inr (u, a, minus, (n, b, digits, (same, end)))) = closes same end (Spells.negative_integer minus digits refl)
 
 line-motion : {ts us : Tokens} {x : Motion} → Spells Rule.motion ts x us → line.motion ts x us
 unfolding line.motion

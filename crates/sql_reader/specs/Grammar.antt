@@ -1,4 +1,4 @@
--- The grammar of commands: which tokens spell one. Each case of `Spells` is an alternative of a line.
+-- The grammar of commands: which tokens spell one. Each case of `Spells` is an alternative of a rule.
 use Rattle.std.specs.Prelude.{◌≡◌, ◌≤◌, ◌<◌, ◌⊎◌, ℕ, ◌+◌, ◌-◌, ◌*◌, ◌^◌, ℤ, pos, neg_ℤ, Bool, true, false, not, ◌&&◌, List, [], ◌∷◌, ◌++◌, length, Option, Some, None, Result, Ok, Err, codes, if◌then◌else◌}
 use Rattle.std.specs.List.{list_any}
 use Prim.Native.String.{String}
@@ -139,7 +139,7 @@ pub data Part : Type 0 where
   default : Literal → Part
   keyed : KeyKind → Part
 
--- no part comes twice, nor NULL and NOT NULL together
+-- parts of which a column has one at most; NULL and NOT NULL are of one kind
 abbrev pub same_kind : Part → Part → Bool
 same_kind (Part.nulls a) (Part.nulls b) = true
 same_kind (Part.default a) (Part.default b) = true
@@ -232,9 +232,9 @@ Meaning run_tree = RunTree
 Meaning command = Command
 
 pub data Spells : (rule : Rule) → Tokens → Meaning rule → Tokens → Type 0 where
-  -- lists, with commas between, and without
-  last_item : {r : Rule} {ts us : Tokens} {y : Meaning r} {x : List (Meaning r)} → Spells r ts y us → x ≡ y ∷ [] → Spells (list_of r) ts x us
-  next_item : {r : Rule} {ts a b us : Tokens} {y : Meaning r} {ys : List (Meaning r)} {x : List (Meaning r)}
+  -- lists with commas between, and repetitions without
+  last_one : {r : Rule} {ts us : Tokens} {y : Meaning r} {x : List (Meaning r)} → Spells r ts y us → x ≡ y ∷ [] → Spells (list_of r) ts x us
+  next_one : {r : Rule} {ts a b us : Tokens} {y : Meaning r} {ys : List (Meaning r)} {x : List (Meaning r)}
       → Spells r ts y a → mark sign.Comma a tt b → Spells (list_of r) b ys us → x ≡ y ∷ ys → Spells (list_of r) ts x us
   no_more : {r : Rule} {ts us : Tokens} {x : List (Meaning r)} → x ≡ [] → us ≡ ts → Spells (repeated r) ts x us
   one_more : {r : Rule} {ts a us : Tokens} {y : Meaning r} {ys : List (Meaning r)} {x : List (Meaning r)}
@@ -253,8 +253,8 @@ pub data Spells : (rule : Rule) → Tokens → Meaning rule → Tokens → Type 
   every_column : {ts us : Tokens} {x : OutputItem} → mark sign.Star ts tt us → x ≡ output_of.All → Spells output ts x us
   every_column_of : {ts a b us : Tokens} {n : Text} {x : OutputItem}
       → name ts n a → mark sign.Dot a tt b → mark sign.Star b tt us → x ≡ output_of.AllOf n → Spells output ts x us
-  computed : {ts a us : Tokens} {y : Expr} {n : Option Text} {x : OutputItem} → expression ts y a → Spells alias a n us → x ≡ output_of.Expr y n → Spells output ts x us
-  from_relation : {ts a us : Tokens} {x : FromItem} → Spells relation ts x.relation a → Spells alias a x.alias us → Spells item ts x us
+  expression_output : {ts a us : Tokens} {y : Expr} {n : Option Text} {x : OutputItem} → expression ts y a → Spells alias a n us → x ≡ output_of.Expr y n → Spells output ts x us
+  relation_item : {ts a us : Tokens} {x : FromItem} → Spells relation ts x.relation a → Spells alias a x.alias us → Spells item ts x us
   inner_joined : {ts a b c d us : Tokens} {i : FromItem} {y : Expr} {x : Join} (is_said : Bool)
       → said "inner" ts is_said a → key "join" a tt b → Spells item b i c → key "on" c tt d → expression d y us → x ≡ Inner i y → Spells join ts x us
   cross_joined : {ts a b us : Tokens} {i : FromItem} {x : Join} → key "cross" ts tt a → key "join" a tt b → Spells item b i us → x ≡ Cross i → Spells join ts x us
@@ -272,8 +272,8 @@ pub data Spells : (rule : Rule) → Tokens → Meaning rule → Tokens → Type 
       → expression ts x.expr a → descending a x.descending b → nulls_first x.descending b x.nulls_first us → Spells sort_key ts x us
   unordered : {ts us : Tokens} {x : List OrderItem} → x ≡ [] → us ≡ ts → Spells order_by ts x us
   ordered : {ts a b us : Tokens} {x : List OrderItem} → key "order" ts tt a → key "by" a tt b → Spells (list_of sort_key) b x us → Spells order_by ts x us
-  unsigned : {ts us : Tokens} {digits : Text} {x : Numeral} → number ts digits us → x ≡ record { negative = false; digits = digits } → Spells numeral ts x us
-  signed : {ts a us : Tokens} {digits : Text} {x : Numeral}
+  plain_numeral : {ts us : Tokens} {digits : Text} {x : Numeral} → number ts digits us → x ≡ record { negative = false; digits = digits } → Spells numeral ts x us
+  negative_numeral : {ts a us : Tokens} {digits : Text} {x : Numeral}
       → mark sign.Minus ts tt a → number a digits us → x ≡ record { negative = true; digits = digits } → Spells numeral ts x us
   null_count : {ts us : Tokens} {x : RowCount} → key "null" ts tt us → x ≡ count_of.Null → Spells count ts x us
   parameter_count : {ts us : Tokens} {digits : Text} {x : RowCount} → parameter ts digits us → x ≡ count_of.Param digits → Spells count ts x us
@@ -292,7 +292,7 @@ pub data Spells : (rule : Rule) → Tokens → Meaning rule → Tokens → Type 
   returning_nothing : {ts us : Tokens} {x : List OutputItem} → x ≡ [] → us ≡ ts → Spells returning ts x us
   returning_outputs : {ts a us : Tokens} {x : List OutputItem} → key "returning" ts tt a → Spells (list_of output) a x us → Spells returning ts x us
   default_value : {ts us : Tokens} {x : NewValue} → key "default" ts tt us → x ≡ value_of.Default → Spells value ts x us
-  computed_value : {ts us : Tokens} {y : Expr} {x : NewValue} → expression ts y us → x ≡ value_of.Expr y → Spells value ts x us
+  expression_value : {ts us : Tokens} {y : Expr} {x : NewValue} → expression ts y us → x ≡ value_of.Expr y → Spells value ts x us
   row_of_values : {ts a b us : Tokens} {x : List NewValue} → mark sign.LeftParen ts tt a → Spells (list_of value) a x b → mark sign.RightParen b tt us → Spells row ts x us
   inserted : {ts a b c d e f us : Tokens} {x : InsertTree}
       → key "insert" ts tt a → key "into" a tt b → Spells relation b x.table c → Spells optional_names c x.columns d
@@ -317,8 +317,8 @@ pub data Spells : (rule : Rule) → Tokens → Meaning rule → Tokens → Type 
       → name ts x.name a → Spells optional_names a x.types b → key "as" b tt c → Spells statement c x.statement us → Spells prepare_tree ts x us
   to_execute : {ts a us : Tokens} {x : ExecuteTree} → name ts x.name a → Spells arguments a x.arguments us → Spells execute_tree ts x us
   -- cursors
-  not_negative : {ts us : Tokens} {n : ℕ} {x : ℤ} → unsigned_integer ts n us → x ≡ pos n → Spells integer ts x us
-  negative : {ts a us : Tokens} {n : ℕ} {x : ℤ} → mark sign.Minus ts tt a → unsigned_integer a n us → x ≡ neg_ℤ (pos n) → Spells integer ts x us
+  plain_integer : {ts us : Tokens} {n : ℕ} {x : ℤ} → unsigned_integer ts n us → x ≡ pos n → Spells integer ts x us
+  negative_integer : {ts a us : Tokens} {n : ℕ} {x : ℤ} → mark sign.Minus ts tt a → unsigned_integer a n us → x ≡ neg_ℤ (pos n) → Spells integer ts x us
   next_row : {ts us : Tokens} {x : Motion} → key "next" ts tt us → x ≡ moves.Next → Spells motion ts x us
   prior_row : {ts us : Tokens} {x : Motion} → key "prior" ts tt us → x ≡ moves.Prior → Spells motion ts x us
   first_row : {ts us : Tokens} {x : Motion} → key "first" ts tt us → x ≡ moves.First → Spells motion ts x us
@@ -352,7 +352,7 @@ pub data Spells : (rule : Rule) → Tokens → Meaning rule → Tokens → Type 
       → key "default" ts tt a → Spells constant a l us → x ≡ Part.default l → Spells (part with_keys) ts x us
   primary_part : {ts a us : Tokens} {x : Part} → key "primary" ts tt a → key "key" a tt us → x ≡ Part.keyed Primary → Spells (part true) ts x us
   unique_part : {ts us : Tokens} {x : Part} → key "unique" ts tt us → x ≡ Part.keyed Unique → Spells (part true) ts x us
-  defined : {with_keys : Bool} {ts us : Tokens} {parts : List Part} {x : ColumnDef} (a b : Tokens)
+  column_defined : {with_keys : Bool} {ts us : Tokens} {parts : List Part} {x : ColumnDef} (a b : Tokens)
       → name ts x.name a → name a x.type_name b → Spells (repeated (part with_keys)) b parts us → none_twice parts ≡ true
       → x.nullability ≡ nullability_of parts → x.default ≡ default_of parts → x.keys ≡ keys_of parts → Spells (column_def with_keys) ts x us
   primary_element : {ts a b us : Tokens} {ns : List Text} {x : TableElement}
@@ -363,10 +363,10 @@ pub data Spells : (rule : Rule) → Tokens → Meaning rule → Tokens → Type 
   made_of_elements : {ts a b c us : Tokens} {x : TableTree}
       → Spells relation ts x.name a → mark sign.LeftParen a tt b → Spells (list_of element) b x.elements c → mark sign.RightParen c tt us → Spells table ts x us
   temporary : {ts a us : Tokens} {x : TempTableTree} → Spells table ts x.table a → on_commit a x.on_commit us → Spells temp_table ts x us
-  indexed : {ts a b c d e us : Tokens} {x : IndexTree}
+  index_defined : {ts a b c d e us : Tokens} {x : IndexTree}
       → said "unique" ts x.unique a → key "index" a tt b → name b x.name c
       → key "on" c tt d → Spells relation d x.table e → Spells parenthesized_names e x.columns us → Spells index ts x us
-  viewed : {ts a b c d e us : Tokens} {s : Select} {x : ViewTree}
+  view_defined : {ts a b c d e us : Tokens} {s : Select} {x : ViewTree}
       → or_replace ts x.replace a → key "view" a tt b → Spells relation b x.name c → Spells optional_names c x.columns d
       → key "as" d tt e → Spells select e s us → x.query ≡ statement_of.ViewSelect s → Spells view ts x us
   column_added : {ts a b us : Tokens} {d : ColumnDef} {x : AlterAction}
@@ -401,10 +401,10 @@ pub data Spells : (rule : Rule) → Tokens → Meaning rule → Tokens → Type 
       → x ≡ command_of.Positioned (record { statement = made None given; cursor = cursor }) → Spells command ts x us
   -- commands: prepared statements
   prepared : {ts a us : Tokens} {p : PrepareTree} {x : Command} → key "prepare" ts tt a → Spells prepare_tree a p us → x ≡ command_of.Prepare p → Spells command ts x us
-  executed : {r : ExecuteTree} {ts a us : Tokens} {x : Command} → key "execute" ts tt a → Spells execute_tree a r us → x ≡ command_of.Execute r → Spells command ts x us
+  executed : {ts a us : Tokens} {t : ExecuteTree} {x : Command} → key "execute" ts tt a → Spells execute_tree a t us → x ≡ command_of.Execute t → Spells command ts x us
   explained : {ts a us : Tokens} {s : Statement} {x : Command} → key "explain" ts tt a → Spells statement a s us → x ≡ command_of.Explain s → Spells command ts x us
-  execute_explained : {r : ExecuteTree} {ts a b us : Tokens} {x : Command}
-      → key "explain" ts tt a → key "execute" a tt b → Spells execute_tree b r us → x ≡ command_of.ExplainExecute r → Spells command ts x us
+  execute_explained : {ts a b us : Tokens} {t : ExecuteTree} {x : Command}
+      → key "explain" ts tt a → key "execute" a tt b → Spells execute_tree b t us → x ≡ command_of.ExplainExecute t → Spells command ts x us
   deallocating : {ts a us : Tokens} {x : Command} (b : Tokens) → key "deallocate" ts tt a → before "prepare" deallocated a tt b → deallocated b x us → Spells command ts x us
   plans_discarded : {ts a us : Tokens} {x : Command} → key "discard" ts tt a → key "plans" a tt us → x ≡ command_of.DiscardPlans → Spells command ts x us
   temp_discarded : {ts a us : Tokens} {x : Command} → key "discard" ts tt a → (key "temp" or key "temporary") a tt us → x ≡ command_of.DiscardTemp → Spells command ts x us
@@ -445,9 +445,9 @@ pub data Spells : (rule : Rule) → Tokens → Meaning rule → Tokens → Type 
   view_created : {ts a us : Tokens} {v : ViewTree} {x : Command} → key "create" ts tt a → Spells view a v us → x ≡ command_of.CreateView v → Spells command ts x us
   schema_dropped : {ts a b us : Tokens} {n : Text} {x : Command}
       → key "drop" ts tt a → key "schema" a tt b → name b n us → x ≡ command_of.Schema (schema.Drop n) → Spells command ts x us
-  object_dropped : {ts a b c us : Tokens} {k : ObjectKind} {q : QName} {all : Bool} {x : Command}
-      → key "drop" ts tt a → object_kind a k b → Spells relation b q c → cascaded c all us
-      → x ≡ command_of.Drop (record { kind = k; name = q; cascade = all }) → Spells command ts x us
+  object_dropped : {ts a b c us : Tokens} {k : ObjectKind} {q : QName} {cascade : Bool} {x : Command}
+      → key "drop" ts tt a → object_kind a k b → Spells relation b q c → cascaded c cascade us
+      → x ≡ command_of.Drop (record { kind = k; name = q; cascade = cascade }) → Spells command ts x us
   truncated : {ts a b us : Tokens} {q : QName} {x : Command} (is_said : Bool)
       → key "truncate" ts tt a → said "table" a is_said b → Spells relation b q us → x ≡ command_of.Truncate q → Spells command ts x us
   table_analyzed : {ts a us : Tokens} {q : QName} {x : Command} → key "analyze" ts tt a → Spells relation a q us → x ≡ command_of.Analyze (Some q) → Spells command ts x us
