@@ -1,2 +1,2 @@
 mod Owned
-mod TypeNames
+mod Places

@@ -7,7 +7,9 @@ use Rattle.q_base.specs.Stops.{StopsBy}
 use Rattle.q_value.specs.declared.value.SqlType.{SqlType}
 use Rattle.q_value.specs.declared.value.SqlType.TheVariants as kind
 use Rattle.q_value.specs.Values.{type_name}
+use Rattle.query_tree.specs.declared.target.CompareOp.TheVariants as compare
 use Rattle.query_tree.specs.declared.target.Target.{Target, out-Target}
+use Rattle.query_tree.specs.declared.target.Target.TheVariants as target
 use Rattle.query_tree.specs.declared.target.Target.TheOpen.{Target-F}
 use Rattle.query_tree.specs.declared.target.Target.TheFolds.{fold-Target}
 use Rattle.query_tree.specs.Targets.{target_kind}
@@ -16,13 +18,15 @@ use Rattle.sql_tree.specs.declared.expr.Expr.{Expr}
 use Rattle.sql_tree.specs.declared.names.ColumnRef.{ColumnRef}
 use Rattle.sql_tree.specs.declared.select.RowCount.{RowCount}
 use Rattle.sql_tree.specs.declared.select.RowCount.TheVariants as count
-use Rattle.analyzer.specs.declared.node.Node.{Node}
-use Rattle.analyzer.specs.declared.state.Place.{Place}
-use Rattle.analyzer.specs.Analysis.{Analysis, ◌>>=◌, pure, refuse, lift}
-use Rattle.analyzer.specs.Expressions.{meaning, operand, column}
-use Rattle.analyzer.specs.Nodes.{Text, naming_three, go_on, typed, given, condition_of, null_of}
-use Rattle.analyzer.specs.Numbers.{shown_number, bigint_constant}
-use Rattle.analyzer.specs.Params.{param}
+use Rattle.expr_analysis.specs.declared.node.Node.{Node}
+use Rattle.expr_analysis.specs.declared.state.Allowed.{Allowed}
+use Rattle.expr_analysis.specs.Analysis.{Analysis, ◌>>=◌, pure, refuse, lift}
+use Rattle.expr_analysis.specs.Expressions.{meaning, operand}
+use Rattle.expr_analysis.specs.Scopes.{column}
+use Rattle.expr_analysis.specs.Sights.{Sight}
+use Rattle.expr_analysis.specs.Nodes.{Text, naming_three, go_on, typed, given, condition_of, null_of}
+use Rattle.expr_analysis.specs.Numbers.{shown_number, bigint_constant}
+use Rattle.expr_analysis.specs.Params.{param}
 
 -- ---- conjuncts
 
@@ -32,9 +36,12 @@ parted [] operands = []
 parted (parts ∷ functions) [] = []
 parted (parts ∷ functions) (operand ∷ operands) = parts operand ++ parted functions operands
 
--- one node, with the parting of each operand in its place: an AND is parted, another node is whole
+-- one node, with the parting of each operand in its place: an AND is parted, a BETWEEN is its two comparisons, another node
+-- is whole
 abbrev pub node_conjuncts : Target-F (Target → List Target) → Target-F Target → Target → List Target
 node_conjuncts (Target-F.And functions) (Target-F.And operands) whole = parted functions operands
+node_conjuncts (Target-F.Between parts low_parts high_parts) (Target-F.Between operand low high) whole =
+    target.Compare compare.GreaterEqual operand low ∷ target.Compare compare.LessEqual operand high ∷ []
 node_conjuncts _ _ whole = whole ∷ []
 
 abbrev pub conjuncts_of : Target → Target → List Target
@@ -44,14 +51,18 @@ conjuncts_of = fold-Target (Target → List Target) (λ layer whole. node_conjun
 abbrev pub conjuncts : Target → List Target
 conjuncts whole = conjuncts_of whole whole
 
-unfoldable pub condition : Place → Text → Option Expr → Analysis (List Target)
-condition place clause None = pure []
-condition place clause (Some written) =
-    operand (meaning written) place >>= (λ n. lift (condition_of clause n) >>= (λ t. pure (conjuncts t)))
+-- the conjuncts of a written condition
+unfoldable pub written_conjuncts : Sight → Allowed → Text → Expr → Analysis (List Target)
+written_conjuncts scope place clause written =
+    operand (meaning written) scope place >>= (λ n. lift (condition_of clause n) >>= (λ t. pure (conjuncts t)))
 
-abbrev pub keys_from : List Target → List ColumnRef → Result (List Target) SqlError
-keys_from found [] = Ok found
-keys_from found (key ∷ keys) = go_on (column key) (λ n. go_on (typed kind.Text n) (λ t. keys_from (found ++ t ∷ []) keys))
+unfoldable pub condition : Sight → Allowed → Text → Option Expr → Analysis (List Target)
+condition scope place clause None = pure []
+condition scope place clause (Some written) = written_conjuncts scope place clause written
+
+abbrev pub keys_from : Sight → List Target → List ColumnRef → Result (List Target) SqlError
+keys_from scope found [] = Ok found
+keys_from scope found (key ∷ keys) = go_on (column scope key) (λ n. go_on (typed kind.Text n) (λ t. keys_from scope (found ++ t ∷ []) keys))
 
 -- ---- LIMIT and OFFSET
 

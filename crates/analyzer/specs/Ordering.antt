@@ -18,12 +18,13 @@ use Rattle.sql_tree.specs.declared.expr.Numeral.{Numeral}
 use Rattle.sql_tree.specs.declared.names.ColumnRef.{ColumnRef}
 use Rattle.sql_tree.specs.declared.select.OrderItem.{OrderItem}
 use Rattle.analyzer.specs.declared.outputs.Output.{Output}
-use Rattle.analyzer.specs.declared.state.Place.{Place}
-use Rattle.analyzer.specs.Analysis.{Analysis, ◌>>=◌, pure, refuse, lift}
-use Rattle.analyzer.specs.Expressions.{meaning, operand}
-use Rattle.analyzer.specs.Nodes.{Text, naming, typed}
-use Rattle.analyzer.specs.Numbers.{number_of, shown_number}
-use Rattle.analyzer.specs.Same.{same_target}
+use Rattle.expr_analysis.specs.declared.state.Allowed.{Allowed}
+use Rattle.expr_analysis.specs.Analysis.{Analysis, ◌>>=◌, pure, refuse, lift}
+use Rattle.expr_analysis.specs.Expressions.{meaning, operand}
+use Rattle.expr_analysis.specs.Nodes.{Text, naming, typed}
+use Rattle.expr_analysis.specs.Numbers.{number_of, shown_number}
+use Rattle.expr_analysis.specs.Same.{same_target}
+use Rattle.expr_analysis.specs.Sights.{Sight}
 
 -- a target of the select list as a key
 unfoldable pub listed : Target → Result Target SqlError
@@ -53,8 +54,8 @@ by_constant outputs (constant.Text text) = Err (plain SyntaxError)
 by_constant outputs constant.Null = Err (plain SyntaxError)
 by_constant outputs (constant.Bool truth) = Err (plain SyntaxError)
 
-unfoldable pub by_expression : Place → Expr → Analysis Target
-by_expression place written = operand (meaning written) place >>= (λ n. lift (typed kind.Text n))
+unfoldable pub by_expression : Sight → Allowed → Expr → Analysis Target
+by_expression scope place written = operand (meaning written) scope place >>= (λ n. lift (typed kind.Text n))
 
 -- the first output of a name
 abbrev pub output_named : Text → List Output → Option Output
@@ -66,30 +67,30 @@ abbrev pub is_ambiguous : Text → Target → List Output → Bool
 is_ambiguous name t [] = false
 is_ambiguous name t (output ∷ outputs) = if bytes_eq output.name name && not (same_target output.target t) then true else is_ambiguous name t outputs
 
-abbrev pub by_output : Place → List Output → Text → Expr → Option Output → Analysis Target
-by_output place outputs name written (Some output) =
+abbrev pub by_output : Sight → Allowed → List Output → Text → Expr → Option Output → Analysis Target
+by_output scope place outputs name written (Some output) =
     if is_ambiguous name output.target outputs then refuse (naming AmbiguousColumn name) else lift (listed output.target)
-by_output place outputs name written None = by_expression place written
+by_output scope place outputs name written None = by_expression scope place written
 
-unfoldable pub by_column : Place → List Output → ColumnRef → Expr → Analysis Target
-by_column place outputs column written =
-    if is_some column.item then by_expression place written else by_output place outputs column.name written (output_named column.name outputs)
+unfoldable pub by_column : Sight → Allowed → List Output → ColumnRef → Expr → Analysis Target
+by_column scope place outputs column written =
+    if is_some column.item then by_expression scope place written else by_output scope place outputs column.name written (output_named column.name outputs)
 
-abbrev pub key_by : {A : Type 0} → Place → List Output → Expr → Expr-F A → Analysis Target
-key_by place outputs written (Expr-F.Literal constant) = lift (by_constant outputs constant)
-key_by place outputs written (Expr-F.Column column) = by_column place outputs column written
-key_by place outputs written _ = by_expression place written
+abbrev pub key_by : {A : Type 0} → Sight → Allowed → List Output → Expr → Expr-F A → Analysis Target
+key_by scope place outputs written (Expr-F.Literal constant) = lift (by_constant outputs constant)
+key_by scope place outputs written (Expr-F.Column column) = by_column scope place outputs column written
+key_by scope place outputs written _ = by_expression scope place written
 
-unfoldable pub key_target : Place → List Output → Expr → Analysis Target
-key_target place outputs written = key_by place outputs written (out-Expr written)
+unfoldable pub key_target : Sight → Allowed → List Output → Expr → Analysis Target
+key_target scope place outputs written = key_by scope place outputs written (out-Expr written)
 
 abbrev pub sort_key : OrderItem → Target → SortKey
 sort_key key t = record { target = t; desc = key.descending; nulls_first = key.nulls_first }
 
-abbrev pub sort_keys_from : Place → List Output → List SortKey → List OrderItem → Analysis (List SortKey)
-sort_keys_from place outputs found [] = pure found
-sort_keys_from place outputs found (key ∷ keys) =
-    key_target place outputs key.expr >>= (λ t. sort_keys_from place outputs (found ++ sort_key key t ∷ []) keys)
+abbrev pub sort_keys_from : Sight → Allowed → List Output → List SortKey → List OrderItem → Analysis (List SortKey)
+sort_keys_from scope place outputs found [] = pure found
+sort_keys_from scope place outputs found (key ∷ keys) =
+    key_target scope place outputs key.expr >>= (λ t. sort_keys_from scope place outputs (found ++ sort_key key t ∷ []) keys)
 
 abbrev pub is_listed : Target → List Output → Bool
 is_listed t [] = false

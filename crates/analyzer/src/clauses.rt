@@ -2,19 +2,19 @@
 
 ghost use Rattle.std.specs.Prelude.{◌≡◌, ◌++◌, [], map, OnOk, IfOk};
 ghost use Rattle.q_value.specs.Answers.{Answers};
-ghost use Rattle.analyzer.specs.Analysis.{Does};
+ghost use Rattle.expr_analysis.specs.Analysis.{Does};
+ghost use Rattle.expr_analysis.specs.Sights.{sight};
 ghost use Rattle.analyzer.specs.Clauses as spec;
 
-use crate::expressions::{column, operand};
-use crate::node::{Node, condition_of, give, typed};
-use crate::numbers::{bigint_constant, shown_number};
-use crate::params::param;
-use crate::refusals::refusal_naming_three;
-use crate::state::{Place, State};
+use expr_analysis::{
+    Allowed, Node, Scope, State, bigint_constant, column, condition_of, give, operand, param,
+    refusal_naming_three, shown_number, typed,
+};
 use q_base::{Code, ListOf, NoMemory, Stop};
 use q_value::{SqlType, Value};
-use query_tree::{CondList, Target, TargetList};
+use query_tree::{CompareOp, CondList, Target, TargetList};
 use sql_tree::{ColumnRef, Expr, RowCount};
+use sqlite_items::Boxed;
 use std::alloc::Global;
 
 /// The conjuncts of the condition of a clause: 42804 where it is no boolean.
@@ -22,20 +22,34 @@ use std::alloc::Global;
 pub(crate) fn condition(
     alloc: Global,
     state: &mut State,
-    place: Place,
+    scope: Scope<'_>,
+    place: Allowed,
     clause: &str,
     written: &Option<Expr>,
 ) -> Result<CondList, Stop>
-    ensures { Does (spec.condition place clause.now written.now state.old) result state.new }
+    ensures { Does (spec.condition (sight scope.entry) place clause.now written.now state.old) result state.new }
 {
     match written {
         None => Ok(ListOf::new(alloc)),
-        Some(written) => {
-            let node = operand(alloc, state, place, written)?;
-            let whole = condition_of(alloc, node, clause)?;
-            Ok(conjuncts(alloc, whole)?)
-        }
+        Some(written) => conjuncts_of(alloc, state, scope, place, clause, written),
     }
+}
+
+/// The conjuncts of a written condition.
+#[tactic(auto, unfolding(crate::specs::Clauses::written_conjuncts))]
+pub(crate) fn conjuncts_of(
+    alloc: Global,
+    state: &mut State,
+    scope: Scope<'_>,
+    place: Allowed,
+    clause: &str,
+    written: &Expr,
+) -> Result<CondList, Stop>
+    ensures { Does (spec.written_conjuncts (sight scope.entry) place clause.now written.now state.old) result state.new }
+{
+    let node = operand(alloc, state, scope, place, written)?;
+    let whole = condition_of(alloc, node, clause)?;
+    Ok(conjuncts(alloc, whole)?)
 }
 
 fn conjuncts(alloc: Global, whole: Target) -> Result<CondList, NoMemory>
@@ -48,13 +62,18 @@ fn conjuncts(alloc: Global, whole: Target) -> Result<CondList, NoMemory>
     Ok(found)
 }
 
-/// Parts a condition at each AND that stands under nothing but AND; BETWEEN is such an AND.
+/// Parts a condition at each AND that stands under nothing but AND; BETWEEN is such an AND, of two comparisons.
 #[cycle(part)]
 fn part(alloc: Global, found: &mut CondList, whole: &Target) -> Result<(), NoMemory>
     ensures { OnOk result (found.new ≡ found.old ++ spec.conjuncts whole.now) }
 {
     match whole {
         Target::And(operands) => part_each(alloc, found, operands.as_slice()),
+        Target::Between(operand, low, high) => {
+            let operand = operand.get();
+            found.push(compared(alloc, CompareOp::GreaterEqual, operand, low.get())?)?;
+            found.push(compared(alloc, CompareOp::LessEqual, operand, high.get())?)
+        }
         _ => found.push(whole.copy(alloc)?),
     }
 }
@@ -69,13 +88,24 @@ fn part_each(alloc: Global, found: &mut CondList, operands: &[Target]) -> Result
     Ok(())
 }
 
+fn compared(alloc: Global, op: CompareOp, left: &Target, right: &Target) -> Result<Target, NoMemory>
+    ensures { IfOk result (λ target. target ≡ Target.Compare op left.now right.now) }
+{
+    let left = Boxed::new(alloc, left.copy(alloc)?)?;
+    Ok(Target::Compare(op, left, Boxed::new(alloc, right.copy(alloc)?)?))
+}
+
 /// The keys of GROUP BY, which are columns.
-pub(crate) fn keys(alloc: Global, written: &[ColumnRef]) -> Result<TargetList, Stop>
-    ensures { Answers (spec.keys_from [] written.now) result }
+pub(crate) fn keys(
+    alloc: Global,
+    scope: Scope<'_>,
+    written: &[ColumnRef],
+) -> Result<TargetList, Stop>
+    ensures { Answers (spec.keys_from (sight scope.entry) [] written.now) result }
 {
     let mut found = ListOf::new(alloc);
     for key in written {
-        found.push(typed(alloc, column(alloc, key)?, SqlType::Text)?)?;
+        found.push(typed(alloc, column(alloc, scope, key)?, SqlType::Text)?)?;
     }
     Ok(found)
 }

@@ -1,26 +1,18 @@
-//! Analysis: what the constants, parameters and names of a statement mean, and the types of its expressions.
-//!
-//! What has no table yet is analysed: a SELECT without FROM, and the arguments of EXECUTE.
+//! Analysis of statements: what their names, constants and parameters mean, and the types of their expressions.
 #![tactic(auto)]
 
-mod aggregates;
-mod arguments;
-mod calls;
+mod assignments;
+mod changes;
 mod clauses;
-mod expressions;
-mod node;
-mod numbers;
-mod operators;
+mod from_clause;
+mod grouping;
+mod naming;
 mod ordering;
 mod outputs;
-mod params;
 mod queries;
-mod refusals;
-mod same;
-mod state;
+mod relations;
 mod statements;
-mod types;
 
-pub use arguments::analyse_args;
-pub use statements::{Analysed, NameIds, Names, analyse};
-pub use types::{declared_types, type_named};
+pub use expr_analysis::{analyse_args, declared_types, type_named};
+pub use naming::{NameIds, Names};
+pub use statements::{Analysed, analyse};

@@ -1,15 +1,12 @@
 ghost use Rattle.std.specs.Prelude.{◌≡◌, [], IfOk};
 ghost use Rattle.std.specs.Option.{option_copied};
 ghost use Rattle.q_value.specs.Answers.{Answers};
-ghost use Rattle.analyzer.specs.Analysis.{Does};
+ghost use Rattle.expr_analysis.specs.Analysis.{Does};
+ghost use Rattle.expr_analysis.specs.Sights.{sight};
 ghost use Rattle.analyzer.specs.Ordering as spec;
 
-use crate::expressions::operand;
-use crate::node::typed;
-use crate::numbers::{number_of, shown_number};
 use crate::outputs::Output;
-use crate::same::same_target;
-use crate::state::{Place, State};
+use expr_analysis::{Allowed, Scope, State, number_of, operand, same_target, shown_number, typed};
 use q_base::{Code, ListOf, Stop, refusal, refusal_naming};
 use q_value::SqlType;
 use query_tree::{SortKey, SortKeyList, Target};
@@ -20,15 +17,16 @@ use std::alloc::Global;
 pub(crate) fn sort_keys(
     alloc: Global,
     state: &mut State,
-    place: Place,
+    scope: Scope<'_>,
+    place: Allowed,
     outputs: &[Output],
     written: &[OrderItem],
 ) -> Result<SortKeyList, Stop>
-    ensures { Does (spec.sort_keys_from place outputs.now [] written.now state.old) result state.new }
+    ensures { Does (spec.sort_keys_from (sight scope.entry) place outputs.now [] written.now state.old) result state.new }
 {
     let mut found = ListOf::new(alloc);
     for key in written {
-        let target = key_target(alloc, state, place, outputs, &key.expr)?;
+        let target = key_target(alloc, state, scope, place, outputs, &key.expr)?;
         found.push(SortKey {
             target,
             desc: key.descending,
@@ -44,16 +42,17 @@ pub(crate) fn sort_keys(
 fn key_target(
     alloc: Global,
     state: &mut State,
-    place: Place,
+    scope: Scope<'_>,
+    place: Allowed,
     outputs: &[Output],
     written: &Expr,
 ) -> Result<Target, Stop>
-    ensures { Does (spec.key_target place outputs.now written.now state.old) result state.new }
+    ensures { Does (spec.key_target (sight scope.entry) place outputs.now written.now state.old) result state.new }
 {
     match written {
         Expr::Literal(constant) => by_constant(alloc, outputs, constant),
-        Expr::Column(name) => by_column(alloc, state, place, outputs, name, written),
-        _ => by_expression(alloc, state, place, written),
+        Expr::Column(name) => by_column(alloc, state, scope, place, outputs, name, written),
+        _ => by_expression(alloc, state, scope, place, written),
     }
 }
 
@@ -61,12 +60,13 @@ fn key_target(
 fn by_expression(
     alloc: Global,
     state: &mut State,
-    place: Place,
+    scope: Scope<'_>,
+    place: Allowed,
     written: &Expr,
 ) -> Result<Target, Stop>
-    ensures { Does (spec.by_expression place written.now state.old) result state.new }
+    ensures { Does (spec.by_expression (sight scope.entry) place written.now state.old) result state.new }
 {
-    let node = operand(alloc, state, place, written)?;
+    let node = operand(alloc, state, scope, place, written)?;
     typed(alloc, node, SqlType::Text)
 }
 
@@ -127,15 +127,16 @@ fn listed(alloc: Global, target: &Target) -> Result<Target, Stop>
 fn by_column(
     alloc: Global,
     state: &mut State,
-    place: Place,
+    scope: Scope<'_>,
+    place: Allowed,
     outputs: &[Output],
     column: &ColumnRef,
     written: &Expr,
 ) -> Result<Target, Stop>
-    ensures { Does (spec.by_column place outputs.now column.now written.now state.old) result state.new }
+    ensures { Does (spec.by_column (sight scope.entry) place outputs.now column.now written.now state.old) result state.new }
 {
     if column.item.is_some() {
-        return by_expression(alloc, state, place, written);
+        return by_expression(alloc, state, scope, place, written);
     }
     let name = column.name.as_str();
     match output_named(outputs, name) {
@@ -143,7 +144,7 @@ fn by_column(
             Err(refusal_naming(alloc, Code::AmbiguousColumn, name))
         }
         Some(output) => listed(alloc, &output.target),
-        None => by_expression(alloc, state, place, written),
+        None => by_expression(alloc, state, scope, place, written),
     }
 }
 

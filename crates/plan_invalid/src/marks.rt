@@ -1,4 +1,4 @@
-ghost use Rattle.std.specs.Prelude.{◌≡◌, ◌+◌, ◌<◌, ◌^◌, [], true, false, map, is_some, Some, None, IfOk, OnOk, OnErr, IsSome};
+ghost use Rattle.std.specs.Prelude.{◌≡◌, ◌↔◌, ◌+◌, ◌<◌, ◌^◌, IsTrue, [], true, false, map, is_some, Some, None, IfOk, OnOk, OnErr, IsSome};
 ghost use Rattle.std.specs.Option.{option_map};
 ghost use Rattle.plan_invalid.specs.declared.source.SourceId.{SourceId};
 ghost use Rattle.plan_invalid.specs.Sources.{source_of, is_marked, marked, told, told_all, all_marked, Changes};
@@ -10,6 +10,9 @@ use slab::Slab;
 use std::alloc::Global;
 use std::collections::BTreeSet;
 use std::marker::Model;
+
+/// The most ids that are given: 2^62.
+const MOST_GIVEN: u64 = 4_611_686_018_427_387_904;
 
 /// Which cached sources are marked: those of which an object that they use, or everything, changed
 /// since they were analysed last. PostgreSQL marks them in PlanCacheRelCallback and ResetPlanCache
@@ -46,6 +49,13 @@ impl Marks {
             watchers: BTreeSet::new(alloc),
             given: 0,
         }
+    }
+
+    /// Whether fewer than 2^62 ids were given, so that `add_source` may give one more.
+    pub fn has_room(&self) -> bool
+        ensures { IsTrue result ↔ (self.now.given < 2 ^ 62) }
+    {
+        self.given < MOST_GIVEN
     }
 
     /// A new source, which is marked and watches nothing. Only where fewer than 2^62 ids were given.
@@ -133,9 +143,10 @@ impl Marks {
         }
     }
 
-    // Whether the id names a source.
-    fn has(&self, source: SourceId) -> bool
-        ensures { result ≡ is_some (source_of self.now source) }
+    /// Whether the id names a source: one that was added here and not removed since.
+    pub fn has(&self, source: SourceId) -> bool
+        ensures named { IsTrue result ↔ IsSome (source_of self.now source) }
+        ensures has { result ≡ is_some (source_of self.now source) }
     {
         match self.sources.get(source.key) {
             Some(found) => found.generation == source.generation,

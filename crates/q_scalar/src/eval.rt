@@ -1,10 +1,11 @@
-ghost use Rattle.std.specs.Prelude.{◌≡◌, map, true, false, List, Option, Some, Ok, IfOk};
+ghost use Rattle.std.specs.Prelude.{◌≡◌, map, true, false, List, [], ◌∷◌, Option, Some, Ok, IfOk};
 ghost use Rattle.q_value.specs.declared.value.SqlType.{SqlType};
 ghost use Rattle.q_value.specs.Values.{IsOf, Fits};
 ghost use Rattle.query_tree.specs.Targets.{is_fallible};
 ghost use Rattle.query_tree.specs.Typing.{IsTyped, FitsRow};
 ghost use Rattle.query_tree.specs.Evaluation as spec;
-ghost use Rattle.q_scalar.specs.Held.{outcome_value};
+ghost use Rattle.query_tree.specs.declared.target.CompareOp.TheVariants as compare_op;
+ghost use Rattle.q_scalar.specs.Held.{value_in, outcome_value};
 ghost use Rattle.q_scalar.specs.Stops.{Gives};
 
 use crate::arithmetic::{compute, negate};
@@ -13,7 +14,7 @@ use crate::held::{Held, held_at, held_param, truth_held};
 use crate::logic::{both, either, negation};
 use q_base::{Code, NoMemory};
 use q_value::Value;
-use query_tree::{Cond, Target, laws};
+use query_tree::{CompareOp, Cond, Target, laws};
 use std::alloc::Global;
 
 /// Why a target has no value: a fault of its own, or want of memory.
@@ -124,7 +125,26 @@ fn outcome<'a>(target: &'a Target, row: &'a [Value], params: &'a [Value]) -> Res
         }
         Target::And(operands) => truth_outcome(conjunction(operands.as_slice(), row, params)),
         Target::Or(operands) => truth_outcome(disjunction(operands.as_slice(), row, params)),
+        Target::In(operand, values) => {
+            let operand = outcome(operand.get(), row, params);
+            truth_outcome(membership(operand, values.as_slice(), row, params))
+        }
+        Target::Between(operand, low, high) => {
+            let operand = outcome(operand.get(), row, params)?;
+            let low = outcome(low.get(), row, params)?;
+            let high = outcome(high.get(), row, params)?;
+            Ok(within(operand.value(), low.value(), high.value()))
+        }
     }
+}
+
+/// BETWEEN over values.
+fn within<'a>(operand: &Value, low: &Value, high: &Value) -> Held<'a>
+    ensures { Ok (value_in result) ≡ spec.conjunction (spec.comparison_outcome compare_op.GreaterEqual (Ok operand.now) (Ok low.now) ∷ spec.comparison_outcome compare_op.LessEqual (Ok operand.now) (Ok high.now) ∷ []) }
+{
+    let above = compare(CompareOp::GreaterEqual, operand, low);
+    let below = compare(CompareOp::LessEqual, operand, high);
+    truth_held(both(above, below))
 }
 
 /// A truth value or a fault as the outcome of a target.
@@ -166,4 +186,42 @@ fn disjunction(operands: &[Target], row: &[Value], params: &[Value]) -> Result<O
         truth = either(truth, outcome(operand, row, params)?.truth());
     }
     Ok(truth)
+}
+
+/// IN, where a fault of the operand stands.
+#[cycle(eval)]
+fn membership(
+    operand: Result<Held<'_>, Code>,
+    values: &[Target],
+    row: &[Value],
+    params: &[Value],
+) -> Result<Option<bool>, Code>
+    ensures { spec.truth_outcome result ≡ spec.then_with (outcome_value operand.entry) (spec.membership (map (λ value. spec.value_of value row.now params.now) values.now)) }
+{
+    let operand = operand?;
+    is_member(operand.value(), values, row, params)
+}
+
+/// OR of the comparisons of one value with each of the others.
+#[cycle(eval)]
+fn is_member(
+    operand: &Value,
+    values: &[Target],
+    row: &[Value],
+    params: &[Value],
+) -> Result<Option<bool>, Code>
+    ensures { result ≡ spec.joined spec.either (Some false) (map (spec.comparison_outcome compare_op.Equal (Ok operand.now)) (map (λ value. spec.value_of value row.now params.now) values.now)) }
+{
+    let mut truth = Some(false);
+    for value in values {
+        truth = either(truth, equals(operand, outcome(value, row, params))?.truth());
+    }
+    Ok(truth)
+}
+
+fn equals<'a>(operand: &Value, value: Result<Held<'_>, Code>) -> Result<Held<'a>, Code>
+    ensures { outcome_value result ≡ spec.comparison_outcome compare_op.Equal (Ok operand.now) (outcome_value value.entry) }
+{
+    let value = value?;
+    Ok(truth_held(compare(CompareOp::Equal, operand, value.value())))
 }

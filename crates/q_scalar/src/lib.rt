@@ -8,5 +8,6 @@ mod held;
 mod logic;
 mod operators;
 
+pub use arithmetic::compute;
 pub use eval::{EvalStop, eval_cond, eval_fallible, eval_target};
 pub use operators::{Op, OpRow, find_op};

@@ -11,7 +11,8 @@ use Rattle.query_tree.specs.declared.target.ArithmeticOp.{ArithmeticOp}
 use Rattle.query_tree.specs.declared.target.ArithmeticOp.TheVariants as arithmetic
 use Rattle.query_tree.specs.declared.target.Target.{Target, Target-F, map-Target, roll-Target, out-Target, fold_out-Target}
 use Rattle.query_tree.specs.Targets.{head_kind, target_kind}
-use Rattle.query_tree.specs.Evaluation.{value_of, node_value, then_with, joined, both, either, value_at, param_value, truth_value, as_integer, range_fault, or_fault, computed, computed_number, computed_where_both, negated_number}
+use Rattle.query_tree.specs.Evaluation.{value_of, node_value, then_with, joined, both, either, value_at, param_value, truth_value, as_integer, range_fault, or_fault, computed, computed_number, computed_where_both, negated_number, comparison_outcome}
+use Rattle.query_tree.specs.declared.target.CompareOp.TheVariants as compare
 use Rattle.query_tree.specs.Typing.{is_kind, is_truth, expected, integer_kind, wider, common_kind, constant_kind, column_kind, param_kind, node_kind, typed_kind, IsTyped, FitsRow}
 
 no : {A : Type 0} → false ≡ true → A
@@ -176,6 +177,8 @@ module _ (columns : List (Option SqlType)) (types : List SqlType) where
   node_told (Target-F.Not operand) type e = truths_found _ type e
   node_told (Target-F.And operands) type e = truths_found _ type e
   node_told (Target-F.Or operands) type e = truths_found _ type e
+  node_told (Target-F.In operand values) type e = truths_found _ type e
+  node_told (Target-F.Between operand low high) type e = truths_found _ type e
 
   typed_node : (target : Target) (type : SqlType) → IsTyped columns types type target → node_kind columns types (map-Target Target (Option SqlType) kinds (out-Target target)) ≡ Some type
   typed_node target type typed = sym (fold_out-Target (Option SqlType) (node_kind columns types) target) ∙ typed
@@ -215,6 +218,12 @@ module _ (columns : List (Option SqlType)) (types : List SqlType) where
     node_is (Target-F.Or operands) type e told =
         subst (λ (k : SqlType). IfOk (node_value row params (Target-F.Or (map value_in operands))) (IsOf k)) told
         (then_if (IsOf kind.Bool) (joined either (Some false) (map value_in operands)) (λ truth. Ok (truth_value truth)) truth_is)
+    node_is (Target-F.In operand values) type e told =
+        subst (λ (k : SqlType). IfOk (node_value row params (Target-F.In (value_in operand) (map value_in values))) (IsOf k)) told
+        (then_if (IsOf kind.Bool) (value_in operand) _ (λ found. then_if (IsOf kind.Bool) (joined either (Some false) (map (comparison_outcome compare.Equal (Ok found)) (map value_in values))) (λ truth. Ok (truth_value truth)) truth_is))
+    node_is (Target-F.Between operand low high) type e told =
+        subst (λ (k : SqlType). IfOk (node_value row params (Target-F.Between (value_in operand) (value_in low) (value_in high))) (IsOf k)) told
+        (then_if (IsOf kind.Bool) (joined both (Some true) (comparison_outcome compare.GreaterEqual (value_in operand) (value_in low) ∷ comparison_outcome compare.LessEqual (value_in operand) (value_in high) ∷ [])) (λ truth. Ok (truth_value truth)) truth_is)
 
     pub typed_value : (target : Target) (type : SqlType) → IsTyped columns types type target → IfOk (value_of target row params) (IsOf type)
     typed_value target type typed =

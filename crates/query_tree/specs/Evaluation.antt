@@ -1,5 +1,5 @@
 -- The value of a target over a row and the values of the parameters.
-use Rattle.std.specs.Prelude.{ℕ, zero, suc, ℤ, pos, ◌+ℤ◌, ◌-ℤ◌, ◌*ℤ◌, neg_ℤ, int_div, Bool, true, false, not, Option, None, Some, Result, Ok, Err, List, [], ◌∷◌, if◌then◌else◌, slice_get, unwrap_or, option_map}
+use Rattle.std.specs.Prelude.{ℕ, zero, suc, ℤ, pos, ◌+ℤ◌, ◌-ℤ◌, ◌*ℤ◌, neg_ℤ, int_div, Bool, true, false, not, Option, None, Some, Result, Ok, Err, List, [], ◌∷◌, map, if◌then◌else◌, slice_get, unwrap_or, option_map}
 use Rattle.std.specs.declared.cmp.Ordering.{Ordering}
 use Rattle.std.specs.Ordering.{int_eq, is_eq, is_ne, is_lt, is_le, is_gt, is_ge}
 use Rattle.q_base.specs.declared.code.Code.{Code}
@@ -131,7 +131,23 @@ joined connective truth (operand ∷ operands) = then_with operand (λ found. jo
 abbrev pub truth_outcome : Result (Option Bool) Code → Result Value Code
 truth_outcome truth = then_with truth (λ found. Ok (truth_value found))
 
--- one node, with the value or the fault of each operand in its place
+-- AND and OR of all operands
+abbrev pub conjunction : List (Result Value Code) → Result Value Code
+conjunction operands = truth_outcome (joined both (Some true) operands)
+
+abbrev pub disjunction : List (Result Value Code) → Result Value Code
+disjunction operands = truth_outcome (joined either (Some false) operands)
+
+-- a comparison of two outcomes; the left side's fault comes first
+abbrev pub comparison_outcome : CompareOp → Result Value Code → Result Value Code → Result Value Code
+comparison_outcome op left right = then_with left (λ l. then_with right (λ r. Ok (truth_value (comparison op l r))))
+
+-- a value is one of the others: the OR of its comparisons with each of them
+abbrev pub membership : List (Result Value Code) → Value → Result Value Code
+membership values found = disjunction (map (comparison_outcome compare.Equal (Ok found)) values)
+
+-- one node, with the value or the fault of each operand in its place; IN is the OR of comparisons of the
+-- operand's value with each of the others, and BETWEEN the AND of two comparisons
 abbrev pub node_value : List Value → List Value → Target-F (Result Value Code) → Result Value Code
 node_value row params (Target-F.Const kind constant) = Ok constant
 node_value row params (Target-F.Param kind number) = Ok (param_value params number)
@@ -139,11 +155,13 @@ node_value row params (Target-F.Column kind column) = Ok (value_at row column.pl
 node_value row params (Target-F.Aggregate kind aggregate) = Ok (value_at row aggregate.place)
 node_value row params (Target-F.Arithmetic op kind left right) = then_with left (λ l. then_with right (λ r. computed op kind l r))
 node_value row params (Target-F.Negate kind operand) = then_with operand (λ found. negated kind found)
-node_value row params (Target-F.Compare op left right) = then_with left (λ l. then_with right (λ r. Ok (truth_value (comparison op l r))))
+node_value row params (Target-F.Compare op left right) = comparison_outcome op left right
 node_value row params (Target-F.IsNull operand negated) = then_with operand (λ found. Ok (value.Bool (null_test negated found)))
 node_value row params (Target-F.Not operand) = then_with operand (λ found. Ok (truth_value (negation (truth_in found))))
-node_value row params (Target-F.And operands) = truth_outcome (joined both (Some true) operands)
-node_value row params (Target-F.Or operands) = truth_outcome (joined either (Some false) operands)
+node_value row params (Target-F.And operands) = conjunction operands
+node_value row params (Target-F.Or operands) = disjunction operands
+node_value row params (Target-F.In operand values) = then_with operand (membership values)
+node_value row params (Target-F.Between operand low high) = conjunction (comparison_outcome compare.GreaterEqual operand low ∷ comparison_outcome compare.LessEqual operand high ∷ [])
 
 -- the value of a target, or its first fault; operands go from left to right, all of them
 abbrev pub value_of : Target → List Value → List Value → Result Value Code

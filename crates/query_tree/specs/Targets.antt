@@ -20,6 +20,8 @@ head_kind (Target-F.IsNull operand negated) = kind.Bool
 head_kind (Target-F.Not operand) = kind.Bool
 head_kind (Target-F.And operands) = kind.Bool
 head_kind (Target-F.Or operands) = kind.Bool
+head_kind (Target-F.In operand values) = kind.Bool
+head_kind (Target-F.Between operand low high) = kind.Bool
 
 -- the type of a target
 abbrev pub target_kind : Target → SqlType
@@ -41,6 +43,8 @@ has_fallible_node (Target-F.IsNull operand negated) = operand
 has_fallible_node (Target-F.Not operand) = operand
 has_fallible_node (Target-F.And operands) = any_of operands
 has_fallible_node (Target-F.Or operands) = any_of operands
+has_fallible_node (Target-F.In operand values) = operand || any_of values
+has_fallible_node (Target-F.Between operand low high) = operand || low || high
 
 -- it holds arithmetic, which alone can fault
 abbrev pub is_fallible : Target → Bool

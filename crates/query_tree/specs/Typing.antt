@@ -1,5 +1,5 @@
 -- Which targets are typed, over the types of a row and of the parameters.
-use Rattle.std.specs.Prelude.{ℕ, zero, suc, Bool, true, false, ◌≡◌, Option, None, Some, List, [], ◌∷◌, slice_get, if◌then◌else◌}
+use Rattle.std.specs.Prelude.{ℕ, zero, suc, Bool, true, false, ◌≡◌, Option, None, Some, List, [], ◌∷◌, map, slice_get, if◌then◌else◌}
 use Rattle.std.specs.List.{list_all}
 use Rattle.std.specs.Option.{option_and_then, option_map_or}
 use Rattle.q_value.specs.declared.value.SqlType.{SqlType}
@@ -63,7 +63,15 @@ abbrev pub is_truth : Option SqlType → Bool
 is_truth (Some kind.Bool) = true
 is_truth other = false
 
--- one node, with the type of each operand in its place
+-- a comparison is boolean, where its sides are comparable
+abbrev pub comparison_kind : Option SqlType → Option SqlType → Option SqlType
+comparison_kind left right = option_and_then (λ l. option_and_then (λ r. option_and_then (λ common. Some kind.Bool) (common_kind l r)) right) left
+
+-- what joins booleans is boolean
+abbrev pub joined_kind : List (Option SqlType) → Option SqlType
+joined_kind operands = if list_all is_truth operands then Some kind.Bool else None
+
+-- one node, with the type of each operand in its place; IN is the OR of its comparisons, and BETWEEN the AND of its two
 abbrev pub node_kind : List (Option SqlType) → List SqlType → Target-F (Option SqlType) → Option SqlType
 node_kind columns params (Target-F.Const kind constant) = constant_kind kind constant
 node_kind columns params (Target-F.Param kind number) = expected kind (param_kind params number)
@@ -71,11 +79,13 @@ node_kind columns params (Target-F.Column kind column) = expected kind (column_k
 node_kind columns params (Target-F.Aggregate kind aggregate) = expected kind (column_kind columns aggregate.place)
 node_kind columns params (Target-F.Arithmetic op kind left right) = option_and_then (λ l. option_and_then (λ r. expected kind (wider l r)) right) left
 node_kind columns params (Target-F.Negate kind operand) = option_and_then (λ found. expected kind (integer_kind found)) operand
-node_kind columns params (Target-F.Compare op left right) = option_and_then (λ l. option_and_then (λ r. option_and_then (λ common. Some kind.Bool) (common_kind l r)) right) left
+node_kind columns params (Target-F.Compare op left right) = comparison_kind left right
 node_kind columns params (Target-F.IsNull operand negated) = option_and_then (λ found. Some kind.Bool) operand
 node_kind columns params (Target-F.Not operand) = if is_truth operand then Some kind.Bool else None
-node_kind columns params (Target-F.And operands) = if list_all is_truth operands then Some kind.Bool else None
-node_kind columns params (Target-F.Or operands) = if list_all is_truth operands then Some kind.Bool else None
+node_kind columns params (Target-F.And operands) = joined_kind operands
+node_kind columns params (Target-F.Or operands) = joined_kind operands
+node_kind columns params (Target-F.In operand values) = joined_kind (map (comparison_kind operand) values)
+node_kind columns params (Target-F.Between operand low high) = joined_kind (comparison_kind operand low ∷ comparison_kind operand high ∷ [])
 
 -- the type of a target, where it is typed over such rows and parameters
 abbrev pub typed_kind : List (Option SqlType) → List SqlType → Target → Option SqlType

@@ -47,8 +47,7 @@ pub struct AggregatePlace {
     pub place: usize,
 }
 
-/// A typed expression: one variant for each form that analysis gives. `x IN (a, b)` is `x = a OR x = b`,
-/// and `x BETWEEN a AND b` is `x >= a AND x <= b`. Operands stand as they were written.
+/// A typed expression: one variant for each form that analysis gives. Operands stand as they were written.
 #[derive(Drop)]
 pub enum Target {
     /// A constant of a type, null among them.
@@ -69,6 +68,10 @@ pub enum Target {
     And(Items<Target>),
     /// Two operands or more.
     Or(Items<Target>),
+    /// `x IN (a, b)`, which is `x = a OR x = b` with the operand evaluated once; two values or more.
+    In(Boxed<Target>, Items<Target>),
+    /// `x BETWEEN a AND b`, which is `x >= a AND x <= b` with the operand evaluated once.
+    Between(Boxed<Target>, Boxed<Target>, Boxed<Target>),
 }
 
 /// Targets in order, such as a select list.
@@ -96,7 +99,9 @@ impl Target {
             | Target::IsNull(_, _)
             | Target::Not(_)
             | Target::And(_)
-            | Target::Or(_) => SqlType::Bool,
+            | Target::Or(_)
+            | Target::In(_, _)
+            | Target::Between(_, _, _) => SqlType::Bool,
         }
     }
 
@@ -116,6 +121,12 @@ impl Target {
             }
             Target::IsNull(operand, _) | Target::Not(operand) => operand.get().is_fallible(),
             Target::And(operands) | Target::Or(operands) => any_fallible(operands.as_slice()),
+            Target::In(operand, values) => {
+                operand.get().is_fallible() || any_fallible(values.as_slice())
+            }
+            Target::Between(operand, low, high) => {
+                operand.get().is_fallible() || low.get().is_fallible() || high.get().is_fallible()
+            }
         }
     }
 
@@ -148,6 +159,17 @@ impl Target {
             Target::Not(operand) => Ok(Target::Not(copy_boxed(alloc, operand)?)),
             Target::And(operands) => Ok(Target::And(copy_operands(alloc, operands)?)),
             Target::Or(operands) => Ok(Target::Or(copy_operands(alloc, operands)?)),
+            Target::In(operand, values) => {
+                let operand = copy_boxed(alloc, operand)?;
+                let values = copy_operands(alloc, values)?;
+                Ok(Target::In(operand, values))
+            }
+            Target::Between(operand, low, high) => {
+                let operand = copy_boxed(alloc, operand)?;
+                let low = copy_boxed(alloc, low)?;
+                let high = copy_boxed(alloc, high)?;
+                Ok(Target::Between(operand, low, high))
+            }
         }
     }
 }

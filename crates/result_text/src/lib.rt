@@ -7,5 +7,5 @@ mod rows;
 mod tags;
 
 pub use errors::{error_text, warning_text};
-pub use rows::rows_text;
+pub use rows::{count_text, rows_text};
 pub use tags::{Tag, TagKind, tag_text};

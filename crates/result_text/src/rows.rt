@@ -23,7 +23,7 @@ pub fn rows_text(
     };
     append_names(columns.as_slice(), out)?;
     append_rows(rows.as_slice(), out)?;
-    append_count(alloc, rows.as_slice().len() as u64, out)
+    count_text(alloc, rows.as_slice().len() as u64, out)
 }
 
 /// Appends the line of the columns' names.
@@ -78,7 +78,7 @@ fn append_more_values(values: &[Value], out: &mut Vec<u8>) -> Result<(), NoMemor
 }
 
 /// Appends the line of the number of rows.
-fn append_count(alloc: Global, count: u64, out: &mut Vec<u8>) -> Result<(), NoMemory>
+pub fn count_text(alloc: Global, count: u64, out: &mut Vec<u8>) -> Result<(), NoMemory>
     ensures { OnOk result (out.new.items ≡ out.old.items ++ spec.count_line count) }
 {
     if count == 1 {

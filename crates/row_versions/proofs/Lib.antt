@@ -19,5 +19,6 @@ mod Rows
 mod Shown
 mod Sounds
 mod Steps
+mod Stood
 mod TableLemmas
 mod Undone

@@ -1,4 +1,4 @@
-ghost use Rattle.std.specs.Prelude.{◌≡◌, ◌≤◌, ◌∷◌, [], ◌++◌, None, OnOk, OnErr, length, drop, slice_get};
+ghost use Rattle.std.specs.Prelude.{◌≡◌, ◌<◌, ◌≤◌, ◌^◌, ◌∷◌, [], ◌++◌, None, IfSome, OnOk, OnErr, length, drop, slice_get};
 ghost use Rattle.std.specs.Option.{option_copied};
 
 use crate::slot::Slot;
@@ -34,6 +34,12 @@ impl Heap {
         }
     }
 
+    pub fn id(&self) -> ObjId
+        ensures { result ≡ self.now.id }
+    {
+        self.id
+    }
+
     /// How many slots were given.
     pub fn len(&self) -> usize
         ensures { result ≡ length self.now.slots }
@@ -49,7 +55,8 @@ impl Heap {
 
     /// The least slot not below `from` that shows a row.
     pub fn next_shown(&self, from: usize, moment: u64) -> Option<usize>
-        ensures { result ≡ first_of (rows_in from (drop from self.now.slots) moment) }
+        ensures within { IfSome result (λ slot. slot < 2 ^ 63) }
+        ensures first { result ≡ first_of (rows_in from (drop from self.now.slots) moment) }
     {
         for at in from..self.slots.len() {
             if self.slots[at].shown(moment).is_some() {

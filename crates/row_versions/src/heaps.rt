@@ -1,4 +1,4 @@
-ghost use Rattle.std.specs.Prelude.{◌≡◌, ℕ, ◌<◌, ◌≤◌, ◌+◌, ◌∷◌, [], ◌++◌, ◌^◌, ◌⊎◌, true, ◌==◌, if◌then◌else◌, position, vec_len, vec_capacity, OnOk, IfOk, MatchResult, MatchOption, IsSome, All, Contains, length, drop, reverse, slice_get, slice_index_or};
+ghost use Rattle.std.specs.Prelude.{◌≡◌, ◌↔◌, ℕ, ◌<◌, ◌≤◌, ◌+◌, ◌∷◌, [], ◌++◌, ◌^◌, ◌⊎◌, true, ◌==◌, if◌then◌else◌, position, vec_len, vec_capacity, OnOk, IfOk, MatchResult, MatchOption, IsSome, IfSome, IsTrue, All, Contains, length, drop, reverse, slice_get, slice_index_or};
 ghost use Rattle.std.specs.Option.{option_copied, option_map};
 ghost use Rattle.q_base.specs.declared.ids.ObjId.{ObjId as Id};
 ghost use Rattle.q_base.specs.declared.code.Code.TheVariants.{LimitExceeded};
@@ -19,6 +19,9 @@ use std::marker::Model;
 
 /// The most rows that may be live at once, those of all tables together.
 const MOST_LIVE_ROWS: u32 = 1_048_576;
+
+/// The most snapshots that are given, and the most slots of a table: 2^62.
+const MOST_GIVEN: u64 = 4_611_686_018_427_387_904;
 
 /// A change that can be taken back.
 #[derive(Clone, Copy)]
@@ -94,16 +97,42 @@ impl Heaps {
         slot.shown(snap.moment)
     }
 
+    /// The row that a slot shows at the newest snapshot.
+    pub fn newest_row(&self, table: ObjId, slot: SlotId) -> Option<&Row>
+        ensures { option_copied result ≡ shown self.now table slot.0 self.now.newest }
+    {
+        let slot = self.tables.slot_of(table, slot.0 as usize)?;
+        slot.shown(self.moment)
+    }
+
+    /// Whether a slot is live: the newest snapshot shows a row there, which `supersede` and `end` may change.
+    pub fn is_live(&self, table: ObjId, slot: SlotId) -> bool
+        ensures { IsTrue result ↔ IsSome (shown self.now table slot.0 self.now.newest) }
+    {
+        self.newest_row(table, slot).is_some()
+    }
+
     /// The least slot not below `from` that shows a row at a snapshot; `None` exactly where none does.
     pub fn next_slot(&self, table: ObjId, from: SlotId, snap: Snap) -> Option<SlotId>
-        ensures { MatchOption result (IsLastRow self.now table from.0 snap) (λ slot. IsNextRow self.now table from.0 snap slot.0) }
+        ensures within { IfSome result (λ slot. slot.0 < 2 ^ 63) }
+        ensures next { MatchOption result (IsLastRow self.now table from.0 snap) (λ slot. IsNextRow self.now table from.0 snap slot.0) }
     {
         let slot = self.first_from(table, from.0 as usize, snap.moment)?;
         Some(SlotId(slot as u64))
     }
 
+    /// The least live slot not below `from`; `None` exactly where no slot from there on is live.
+    pub fn next_live(&self, table: ObjId, from: SlotId) -> Option<SlotId>
+        ensures within { IfSome result (λ slot. slot.0 < 2 ^ 63) }
+        ensures next { MatchOption result (IsLastRow self.now table from.0 self.now.newest) (λ slot. IsNextRow self.now table from.0 self.now.newest slot.0) }
+    {
+        let slot = self.first_from(table, from.0 as usize, self.moment)?;
+        Some(SlotId(slot as u64))
+    }
+
     fn first_from(&self, table: ObjId, from: usize, moment: u64) -> Option<usize>
-        ensures { result ≡ first_of (rows_from self.now table from moment) }
+        ensures within { IfSome result (λ slot. slot < 2 ^ 63) }
+        ensures first { result ≡ first_of (rows_from self.now table from moment) }
     {
         let heap = self.tables.heap_of(table)?;
         heap.next_shown(from, moment)
@@ -116,6 +145,13 @@ impl Heaps {
     {
         let slot = self.tables.slot_of(table, slot.0 as usize)?;
         slot.version(at)
+    }
+
+    /// Whether fewer than 2^62 snapshots were given, so that `advance` may give one more.
+    pub fn can_advance(&self) -> bool
+        ensures { IsTrue result ↔ (self.now.newest < 2 ^ 62) }
+    {
+        self.moment < MOST_GIVEN
     }
 
     /// The newest snapshot. Later changes are not shown by it. Only where fewer than 2^62 were given.
@@ -131,6 +167,16 @@ impl Heaps {
         };
         self.moment += 1;
         snap
+    }
+
+    /// Whether a table was added and has fewer than 2^62 slots, so that `insert` may give it one more.
+    pub fn has_room(&self, table: ObjId) -> bool
+        ensures { IsTrue result ↔ (IsAdded self.now table × (length (slots_of table self.now.tables) < 2 ^ 62)) }
+    {
+        match self.tables.find(table) {
+            Some(table) => (self.tables.len_of(table) as u64) < MOST_GIVEN,
+            None => false,
+        }
     }
 
     /// Inserts a row into a slot of its own, after all others of the table. Refused as 54000 exactly where
@@ -211,6 +257,13 @@ impl Heaps {
         Ok(())
     }
 
+    /// Whether `advance` gave a snapshot, so that `pin` may hold it.
+    pub fn was_given(&self, snap: Snap) -> bool
+        ensures { IsTrue result ↔ (snap < self.now.newest) }
+    {
+        snap.moment < self.moment
+    }
+
     /// Holds what a snapshot shows until the pin is handed back. Only for a snapshot that `advance` gave.
     pub fn pin(&mut self, snap: Snap) -> Result<Pin, NoMemory>
         requires { snap < self.old.newest }
@@ -220,6 +273,13 @@ impl Heaps {
         Ok(Pin {
             moment: snap.moment,
         })
+    }
+
+    /// Whether a pin is one that is held, so that `unpin` may end it.
+    pub fn holds(&self, pin: &Pin) -> bool
+        ensures { IsTrue result ↔ Contains self.now.pins pin.now }
+    {
+        self.pins.as_slice().contains(&pin.moment)
     }
 
     /// Ends a pin, which has to be one that is held. What it alone held is then for `prune` to drop.
@@ -243,6 +303,25 @@ impl Heaps {
             changes: self.log.len(),
             moment: self.moment,
         }
+    }
+
+    /// Whether a mark stands: no more was taken back than it has, and none of its changes was made good by
+    /// `forget` since.
+    pub fn stands(&self, mark: HeapMark) -> bool
+        ensures { IsTrue result ↔ Stands self.now mark }
+    {
+        if self.log.len() < mark.changes || self.moment < mark.moment {
+            return false;
+        }
+        let log = self.log.as_slice();
+        are_from(&log[mark.changes..], mark.moment)
+    }
+
+    /// Whether `rollback_to` may go back to a mark: it stands, and each pinned snapshot is older than it.
+    pub fn can_return(&self, mark: HeapMark) -> bool
+        ensures { IsTrue result ↔ (Stands self.now mark × All (λ pin. pin < mark.moment) self.now.pins) }
+    {
+        self.stands(mark) && are_before(self.pins.as_slice(), mark.moment)
     }
 
     /// Takes back the changes since the mark, which has to stand. Slots that were given since are not given
@@ -291,6 +370,25 @@ impl Heaps {
         self.log.clear();
     }
 
+    /// Whether no change is left to take back, so that `prune` may drop versions.
+    pub fn is_settled(&self) -> bool
+        ensures { IsTrue result ↔ (self.now.log ≡ []) }
+    {
+        self.log.is_empty()
+    }
+
+    /// How many slots may have a version for `prune` to drop.
+    pub fn stale_len(&self) -> usize {
+        self.stale.len()
+    }
+
+    /// One of these slots.
+    pub fn stale_at(&self, at: usize) -> Option<(ObjId, SlotId)> {
+        let place = self.stale.get(at)?;
+        let heap = self.tables.get(place.table)?;
+        Some((heap.id(), SlotId(place.slot as u64)))
+    }
+
     /// Drops the versions that neither the newest snapshot nor a pinned one shows. No change may be left
     /// to take back, as directly after `forget`.
     pub fn prune(&mut self)
@@ -308,6 +406,20 @@ impl Heaps {
             self.pins.as_slice(),
         );
     }
+}
+
+/// Whether no change was made before a moment.
+fn are_from(changes: &[Change], moment: u64) -> bool
+    ensures { IsTrue result ↔ All (λ change. moment ≤ change.moment) changes.now }
+{
+    changes.iter().all(|change| moment <= change.moment)
+}
+
+/// Whether each pin is of a snapshot before a moment.
+fn are_before(pins: &[u64], moment: u64) -> bool
+    ensures { IsTrue result ↔ All (λ pin. pin < moment) pins.now }
+{
+    pins.iter().all(|pin| *pin < moment)
 }
 
 /// Puts a slot on a list with room, if it is new there.

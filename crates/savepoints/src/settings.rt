@@ -1,4 +1,4 @@
-ghost use Rattle.std.specs.Prelude.{◌≡◌, ℕ, ◌≤◌, IfOk, IfErr, OnOk, OnErr, length};
+ghost use Rattle.std.specs.Prelude.{◌≡◌, ◌↔◌, ℕ, ◌≤◌, IsTrue, IfOk, IfErr, OnOk, OnErr, length};
 ghost use Rattle.q_base.specs.Stops.{StopsBy};
 ghost use Rattle.savepoints.specs.Leads.{LeadsTo};
 ghost use Rattle.savepoints.specs.Shown.{shown_after};
@@ -142,6 +142,13 @@ impl Settings {
         SetMark {
             changes: self.log.len(),
         }
+    }
+
+    /// Whether a mark stands: no fewer changes can be taken back than when it was taken.
+    pub fn stands(&self, mark: SetMark) -> bool
+        ensures { IsTrue result ↔ spec.Stands self.now mark }
+    {
+        mark.changes <= self.log.len()
     }
 
     /// Gives back the values of the mark, the session's and the current ones. The mark has to stand: no

@@ -1,19 +1,19 @@
--- What is said of a call's output and refusal, said in other words.
-use Rattle.std.specs.Prelude.{Result, Ok, Err, IfErr, OnOk}
+-- A call that is a case, as one of another case.
+use Rattle.std.proofs.Common.{refl}
+use Rattle.std.specs.Prelude.{ℕ, List, Result, Ok, Err}
 use Rattle.q_base.specs.declared.errors.SqlError.{SqlError}
 use Rattle.q_base.specs.declared.errors.Stop.{Stop}
 use Rattle.q_base.specs.declared.errors.Stop.TheVariants.{Sql, NoMemory}
 use Rattle.q_base.specs.Stops.{StopsBy}
+use Rattle.session_core.specs.State.{State, Case, Does}
 
-pub on_ok : {A E P Q : Type 0} (result : Result A E) → (P → Q) → OnOk result P → OnOk result Q
-on_ok (Ok a) f p = f p
-on_ok (Err e) f p = p
+-- what is said of how the call ended, said in other words
+pub does_as : {one other : Case} {before after : List ℕ} {state2 : State} (result : Result (Unit {0}) Stop) → ((outcome : Result (List ℕ) SqlError) → one outcome state2 → other outcome state2) → Does one before after state2 result → Does other before after state2 result
+does_as (Ok done) f p = (p.0, p.1, f (Ok p.0) p.2)
+does_as (Err (Sql error)) f p = (p.0, f (Err error) p.1)
+does_as (Err NoMemory) f p = tt
 
-pub on_refusal : {A : Type 0} {P Q : SqlError → Type 0} (result : Result A Stop) → ((error : SqlError) → P error → Q error) → IfErr result (StopsBy P) → IfErr result (StopsBy Q)
-on_refusal (Ok a) f p = p
-on_refusal (Err (Sql error)) f p = f error p
-on_refusal (Err NoMemory) f p = p
-
-pub on_stop : {P Q : SqlError → Type 0} (stop : Stop) → ((error : SqlError) → P error → Q error) → StopsBy P stop → StopsBy Q stop
-on_stop (Sql error) f p = f error p
-on_stop NoMemory f p = p
+-- a refusal that was met before anything was written or changed
+pub does_refuse : {P : SqlError → Type 0} {case : Case} {before : List ℕ} {state : State} (stop : Stop) → ((error : SqlError) → P error → case (Err error) state) → StopsBy P stop → Does case before before state (Err stop)
+does_refuse (Sql error) f p = (refl, f error p)
+does_refuse NoMemory f p = tt

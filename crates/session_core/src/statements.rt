@@ -1,18 +1,28 @@
 ghost use Rattle.std.specs.Prelude.{◌≡◌, [], ◌∷◌, ◌++◌, length, None, OnOk, option_map};
 ghost use Rattle.std.specs.Option.{option_copied};
-ghost use Rattle.analyzer.specs.Statements.{seen};
 ghost use Rattle.session_core.specs.Prepared.{kept};
+ghost use Rattle.session_core.specs.Seen.{found_in};
 
 use analyzer::Analysed;
 use indexmap::IndexMap;
+use plan_source::CachedSource;
 use q_base::{NoMemory, Str};
 use std::alloc::Global;
 use std::marker::Model;
 
-/// The prepared statements of a session by name, in order of making.
+/// A prepared statement.
+#[derive(Drop)]
+pub struct Kept {
+    /// Of a statement that needs no table what its analysis found, which nothing can change.
+    pub found: Option<Analysed>,
+    pub source: CachedSource,
+}
+
+/// The prepared statements of a session by name, in order of making. Contracts see their names, and what is found of
+/// those that need no table.
 #[derive(Drop)]
 pub struct Statements {
-    by_name: IndexMap<String, Analysed>,
+    by_name: IndexMap<String, Kept>,
 }
 
 impl Model for Statements {
@@ -46,18 +56,39 @@ impl Statements {
     }
 
     /// The statement of a name; `None` exactly where there is none.
-    pub fn get(&self, name: &str) -> Option<&Analysed>
-        ensures { option_map seen (option_copied result) ≡ kept self.now name.now }
+    pub fn get(&self, name: &str) -> Option<&Kept>
+        ensures { option_map found_in (option_copied result) ≡ kept self.now name.now }
     {
         self.by_name.get(name)
     }
 
+    pub fn get_mut(&mut self, name: &str) -> Option<&mut Kept> {
+        self.by_name.get_mut(name)
+    }
+
+    /// The name and the statement at a place in order of making.
+    pub fn at(&self, place: usize) -> Option<(&str, &Kept)> {
+        let (name, kept) = self.by_name.get_index(place)?;
+        Some((name.as_str(), kept))
+    }
+
     /// Keeps a statement under a name that none has.
-    pub fn insert(&mut self, name: Str, statement: Analysed) -> Result<(), NoMemory>
+    pub fn insert(&mut self, name: Str, statement: Kept) -> Result<(), NoMemory>
         requires { kept self.old name ≡ None }
-        ensures { OnOk result (self.new ≡ self.old ++ record { name = name; found = seen statement } ∷ []) }
+        ensures { OnOk result (self.new ≡ self.old ++ record { name = name; found = found_in statement } ∷ []) }
     {
         self.by_name.insert(name.into_string(), statement)?;
         Ok(())
+    }
+
+    /// Takes a statement out.
+    pub fn remove(&mut self, name: &str) -> Option<Kept> {
+        self.by_name.shift_remove(name)
+    }
+
+    /// Takes the newest statement out.
+    pub fn pop(&mut self) -> Option<Kept> {
+        let (_, kept) = self.by_name.pop()?;
+        Some(kept)
     }
 }

@@ -1,0 +1,6 @@
+use Rattle.std.proofs.Common.{◌≡◌, [], ◌++◌, map, take, drop, length}
+use Rattle.analyzer.specs.Assignments.{column_named}
+use Rattle.analyzer.proofs.assignments.column_named.Given as goal
+
+abbrev pub invariant-loop-column : goal.invariant-loop-column
+invariant-loop-column l = column_named l.name (drop l.column-index l.columns) ≡ column_named l.name l.columns

@@ -1,6 +1,0 @@
-use Rattle.std.proofs.Common.{◌≡◌, map, drop}
-use Rattle.analyzer.specs.Calls.{calls, total}
-use Rattle.analyzer.proofs.calls.+calls.Given as goal
-
-abbrev pub invariant-calls_in_each-loop-part : goal.invariant-calls_in_each-loop-part
-invariant-calls_in_each-loop-part l = total l.count (map calls (drop l.part-index l.written)) ≡ total 0 (map calls l.written)

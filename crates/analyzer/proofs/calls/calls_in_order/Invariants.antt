@@ -1,6 +1,0 @@
-use Rattle.std.proofs.Common.{◌≡◌, map, drop}
-use Rattle.analyzer.specs.Calls.{calls_of_key, total}
-use Rattle.analyzer.proofs.calls.calls_in_order.Given as goal
-
-abbrev pub invariant-loop-key : goal.invariant-loop-key
-invariant-loop-key l = total l.count (map calls_of_key (drop l.key-index l.written)) ≡ total 0 (map calls_of_key l.written)

@@ -1,6 +1,0 @@
-use Rattle.std.proofs.Common.{◌≡◌, map, drop}
-use Rattle.analyzer.specs.Calls.{calls_of_output, total}
-use Rattle.analyzer.proofs.calls.calls_in_outputs.Given as goal
-
-abbrev pub invariant-loop-item : goal.invariant-loop-item
-invariant-loop-item l = total l.count (map calls_of_output (drop l.item-index l.written)) ≡ total 0 (map calls_of_output l.written)

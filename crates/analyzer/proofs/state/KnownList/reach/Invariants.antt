@@ -1,6 +1,0 @@
-use Rattle.std.proofs.Common.{◌≡◌, ◌++◌, replicate}
-use Rattle.analyzer.specs.declared.state.Known.TheVariants.{Unused}
-use Rattle.analyzer.proofs.state.KnownList.reach.Given as goal
-
-abbrev pub invariant-loop-turn : goal.invariant-loop-turn
-invariant-loop-turn l = l.self-inside.items.items ≡ l.fn.self ++ replicate l._turn Unused

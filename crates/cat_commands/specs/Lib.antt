@@ -1,0 +1,16 @@
+pub mod Columns
+pub mod Defaults
+pub mod Drops
+pub mod Elements
+pub mod Indexes
+pub mod Keys
+pub mod Limits
+pub mod MadeNames
+pub mod Names
+pub mod Numbers
+pub mod Places
+pub mod Schemas
+pub mod Stats
+pub mod Steps
+pub mod Types
+pub mod Views

@@ -1,0 +1,44 @@
+-- Changes by what they mean: an entry is put by its value.
+use Rattle.std.specs.Prelude.{List, [], ◌∷◌, ◌++◌, map}
+use Rattle.q_base.specs.declared.ids.ObjId.{ObjId}
+use Rattle.q_base.specs.declared.ids.SchemaId.{SchemaId}
+use Rattle.cat_names.specs.declared.rows.SchemaRow.{SchemaRow}
+use Rattle.cat_core.specs.declared.entry.Def.{Def}
+use Rattle.cat_core.specs.declared.entry.Entry.{Entry}
+use Rattle.cat_core.specs.declared.changes.Change.{Change}
+use Rattle.cat_core.specs.declared.changes.Change.TheVariants as change
+use Rattle.cat_commands.specs.Names.{Text}
+
+pub data Step : Type 0 where
+  Puts : Entry → Step
+  Drops : ObjId → Step
+  PutsSchema : SchemaRow → Step
+  DropsSchema : SchemaId → Step
+  Touches : ObjId → Step
+  TouchesAll : Step
+
+abbrev pub step : Change → Step
+step (change.PutEntry entry) = Puts entry.value
+step (change.DropEntry id) = Drops id
+step (change.PutSchema row) = PutsSchema row
+step (change.DropSchema id) = DropsSchema id
+step (change.Touch id) = Touches id
+step change.TouchAll = TouchesAll
+
+abbrev pub steps : List Change → List Step
+steps changes = map step changes
+
+abbrev pub one : Change → List Step
+one first = step first ∷ []
+
+abbrev pub then : List Change → Change → List Step
+then changes last = steps changes ++ step last ∷ []
+
+abbrev pub entry : ObjId → SchemaId → Text → Def → Entry
+entry id schema name def = record { id = id; schema = schema; name = name; def = def }
+
+abbrev pub put : ObjId → SchemaId → Text → Def → Step
+put id schema name def = Puts (entry id schema name def)
+
+abbrev pub put_touched : ObjId → SchemaId → Text → Def → List Step
+put_touched id schema name def = put id schema name def ∷ Touches id ∷ []

@@ -1,0 +1,4 @@
+mod Ages
+mod Backs
+mod SlotRows
+mod StampRows

@@ -1,0 +1,4 @@
+pub mod Ages
+pub mod Objects
+pub mod Stamps
+pub mod Steps

@@ -1,0 +1,4 @@
+pub mod Capped
+pub mod Costs
+pub mod Estimates
+pub mod Tests

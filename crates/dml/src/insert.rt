@@ -1,0 +1,153 @@
+use crate::changed::{Changed, count_of, returned_of};
+use crate::entries::add_entries;
+use crate::tables::table_of;
+use crate::unique::check_unique;
+use crate::values::{check_row, nulls, put_value, values_of};
+use cat_core::{Catalog, TableDef};
+use executor::Stores;
+use plan_tree::Plan;
+use q_base::{Code, ObjId, SlotId, Stop, refusal};
+use q_value::{Row, Rows, Value};
+use query_tree::{AssignedColumn, Assignment, Bound, Insert, Target};
+use row_versions::Snap;
+use std::alloc::Global;
+
+/// Inserts the rows of an INSERT, in their order (PostgreSQL's manual, INSERT). Another plan changes nothing.
+///
+/// For each row all expressions are evaluated in the order of the text, refused as 22003 or 22012; then their values
+/// are converted to the columns' types, refused as 22003; then columns that can't be null are looked at in order of
+/// making, refused as 23502. After all rows it is refused as 54000 where more rows would be live than the limit, and
+/// then by each unique index in order of making as 23505. After a refusal the caller takes the changes of rows back.
+pub fn insert_rows(
+    alloc: Global,
+    stores: &mut Stores,
+    catalog: &Catalog,
+    plan: &Plan,
+    params: &[Value],
+    _snap: Snap,
+) -> Result<Changed, Stop> {
+    match plan.bound.as_ref() {
+        Bound::Insert(insert) => inserted(alloc, stores, catalog, insert, params),
+        _ => Ok(Changed::nothing(alloc)),
+    }
+}
+
+fn inserted(
+    alloc: Global,
+    stores: &mut Stores,
+    catalog: &Catalog,
+    insert: &Insert,
+    params: &[Value],
+) -> Result<Changed, Stop> {
+    let id = insert.table.id;
+    let Some(table) = table_of(catalog, id) else {
+        return Ok(Changed::nothing(alloc));
+    };
+    let rows = new_rows(alloc, insert, table, params)?;
+    let slots = store_rows(alloc, stores, id, rows)?;
+    check_unique(alloc, stores, catalog, id, slots.as_slice())?;
+    let returned = returned_of(
+        alloc,
+        &stores.heaps,
+        id,
+        slots.as_slice(),
+        &insert.returning,
+        params,
+    )?;
+    Ok(Changed {
+        count: count_of(slots.as_slice()),
+        returned,
+    })
+}
+
+/// The rows that are inserted, or the first refusal among them.
+fn new_rows(
+    alloc: Global,
+    insert: &Insert,
+    table: &TableDef,
+    params: &[Value],
+) -> Result<Rows, Stop> {
+    let mut rows = Rows::new(alloc);
+    for targets in insert.rows.as_slice() {
+        rows.push(new_row(alloc, insert, table, targets.as_slice(), params)?)?;
+    }
+    Ok(rows)
+}
+
+fn new_row(
+    alloc: Global,
+    insert: &Insert,
+    table: &TableDef,
+    targets: &[Target],
+    params: &[Value],
+) -> Result<Row, Stop> {
+    let values = values_of(alloc, targets, &[], params)?;
+    let mut row = nulls(alloc, table.next_column)?;
+    put_defaults(alloc, &mut row, insert.defaults.as_slice(), params)?;
+    put_values(
+        alloc,
+        &mut row,
+        insert.columns.as_slice(),
+        values.as_slice(),
+    )?;
+    check_row(
+        alloc,
+        table.columns.as_slice(),
+        row.as_slice(),
+        &insert.written,
+    )?;
+    Ok(Row::from_vec(row))
+}
+
+fn put_defaults(
+    alloc: Global,
+    row: &mut Vec<Value>,
+    defaults: &[Assignment],
+    params: &[Value],
+) -> Result<(), Stop> {
+    for given in defaults {
+        let value = crate::values::value_of(alloc, &given.value, &[], params)?;
+        put_value(alloc, row, given.column, &value)?;
+    }
+    Ok(())
+}
+
+/// Puts values, converted, into the places of columns: the first value into that of the first, and so on.
+pub(crate) fn put_values(
+    alloc: Global,
+    row: &mut Vec<Value>,
+    columns: &[AssignedColumn],
+    values: &[Value],
+) -> Result<(), Stop> {
+    for (place, column) in columns.iter().enumerate() {
+        if let Some(value) = values.get(place) {
+            put_value(alloc, row, *column, value)?;
+        }
+    }
+    Ok(())
+}
+
+/// Stores rows behind those of the table, with their entries, and answers their slots: 54000 where the limit of
+/// live rows is passed.
+fn store_rows(
+    alloc: Global,
+    stores: &mut Stores,
+    table: ObjId,
+    rows: Rows,
+) -> Result<Vec<SlotId>, Stop> {
+    let mut slots = Vec::new(alloc);
+    for row in rows.into_vec() {
+        let slot = store_row(alloc, stores, table, row)?;
+        slots.push(slot)?;
+    }
+    Ok(slots)
+}
+
+fn store_row(alloc: Global, stores: &mut Stores, table: ObjId, row: Row) -> Result<SlotId, Stop> {
+    if !stores.heaps.has_room(table) {
+        return Err(refusal(alloc, Code::LimitExceeded));
+    }
+    let slot = stores.heaps.insert(table, row)?;
+    add_entries(alloc, stores, table, slot)?;
+    Ok(slot)
+}

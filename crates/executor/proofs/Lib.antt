@@ -1,0 +1,6 @@
+mod Ends
+mod Firsts
+mod RowOrders
+mod Sorted
+mod Stops
+mod Turns

@@ -1,0 +1,14 @@
+pub mod Checks
+pub mod Cuts
+pub mod Groups
+pub mod Hashes
+pub mod Laws
+pub mod Lists
+pub mod Rest
+pub mod Runs
+pub mod Scans
+pub mod Slots
+pub mod Sorts
+pub mod Steps
+pub mod Uniques
+pub mod Yields

@@ -1,0 +1,14 @@
+pub mod Aggregates
+pub mod Analysis
+pub mod Arguments
+pub mod Calls
+pub mod Expressions
+pub mod Nodes
+pub mod Numbers
+pub mod Operators
+pub mod Params
+pub mod Same
+pub mod Scopes
+pub mod Sights
+pub mod Types
+pub mod Undeclared

@@ -1,0 +1,6 @@
+mod Fits
+mod Maps
+mod Pulling
+mod Rows
+mod Soundness
+mod Walking

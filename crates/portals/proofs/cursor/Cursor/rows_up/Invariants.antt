@@ -1,0 +1,6 @@
+use Rattle.std.proofs.Common.{◌≡◌, ◌+◌, ◌-◌, ◌++◌}
+use Rattle.portals.specs.Walks.{rows_up}
+use Rattle.portals.proofs.cursor.Cursor.rows_up.Given as goal
+
+abbrev pub invariant-loop-step : goal.invariant-loop-step
+invariant-loop-step g l = l.rows ++ rows_up l.self.kept (l.start + l.step) (l.count - l.step) ≡ rows_up l.self.kept l.start l.count

@@ -1,0 +1,4 @@
+pub mod Courses
+pub mod Cursors
+pub mod Sessions
+pub mod Walks

@@ -1,0 +1,3 @@
+mod Connectives
+mod Doubles
+mod Whole

@@ -1,0 +1,2 @@
+CREATE TABLE q (id integer, x integer);
+EXPLAIN SELECT id FROM q WHERE 10 / x > 1;

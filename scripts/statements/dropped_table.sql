@@ -1,0 +1,5 @@
+CREATE TABLE t (a integer);
+PREPARE p AS SELECT a FROM t WHERE a = $1;
+DROP TABLE t;
+EXECUTE p(1, 2);
+EXECUTE p(1);

@@ -1,0 +1,4 @@
+CREATE TABLE t (a integer); PREPARE p AS SELECT a FROM t; BEGIN; SAVEPOINT s; ALTER TABLE t RENAME COLUMN a TO b; ROLLBACK TO s;
+\prepared
+EXECUTE p;
+\prepared

@@ -1,0 +1,10 @@
+CREATE SCHEMA a;
+CREATE TABLE t (x integer);
+INSERT INTO t VALUES (1);
+SET search_path TO a, public;
+PREPARE p AS SELECT x FROM t;
+CREATE TABLE a.t (x integer);
+INSERT INTO a.t VALUES (2);
+EXECUTE p;
+ANALYZE public.t;
+EXECUTE p;

@@ -1,0 +1,10 @@
+CREATE TABLE t (a integer, b integer);
+INSERT INTO t VALUES (1, 2);
+INSERT INTO t VALUES (3);
+PREPARE p AS SELECT b, a FROM t;
+EXECUTE p;
+INSERT INTO t VALUES (4, 5);
+EXECUTE p;
+SELECT c FROM t;
+SELECT a FROM u;
+CREATE TABLE t (a integer);
