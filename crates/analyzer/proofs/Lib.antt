@@ -1,2 +1,3 @@
 mod Owned
 mod Places
+mod Placing

@@ -1,5 +1,5 @@
 -- A loop that takes the elements of a list one by one, and what it gives for each.
-use Rattle.std.proofs.Common.{◌≡◌, ℕ, List, [], ◌∷◌, ◌++◌, ◌+◌, length, Result, Ok, Err, refl, sym, ap, subst, ◌∙◌, arith}
+use Rattle.std.proofs.Common.{◌≡◌, ℕ, List, [], ◌∷◌, ◌++◌, ◌+◌, length, refl, sym, ap, subst, ◌∙◌, arith}
 use Rattle.q_value.specs.declared.value.SqlType.{SqlType}
 use Rattle.analyzer.specs.Queries.{split_from}
 use Rattle.analyzer.specs.declared.outputs.Output.{Output}

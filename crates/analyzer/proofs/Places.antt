@@ -27,6 +27,13 @@ over_items (chain ∷ chains) f (Ok items) result plain follows = (with_items (O
 over_items (chain ∷ chains) f (Err (Sql error)) result plain follows = (with_items (Err error) no_table, subst (λ r. AnalysedAs (Err error) r) (sym follows) refl)
 over_items (chain ∷ chains) f (Err NoMemory) result plain follows = (with_items (Ok []) no_table, subst (λ r. AnalysedAs (f []) r) (sym follows) tt)
 
+-- the items of FROM as it is written, where what was read is the same
+pub over_written : (written from : List FromChain) (f : List ScopeItem → Result Found SqlError) (found : Result (List ScopeItem) Stop) (result : Result Analysed Stop)
+    → from ≡ written → (from ≡ [] → found ≡ Ok []) → Follows f found result
+    → (place : Surroundings) × AnalysedAs (go_on (items_in place written) f) result
+over_written written from f found result same plain follows =
+    subst (λ w. (place : Surroundings) × AnalysedAs (go_on (items_in place w) f) result) same (over_items from f found result plain follows)
+
 pub over_changed : (name : QName) (f : Changed → Result Found SqlError) (found : Result Changed Stop) (result : Result Analysed Stop)
     → Follows f found result → (place : Surroundings) × AnalysedAs (go_on (place.changed name) f) result
 over_changed name f (Ok changed) result follows = (with_items (Ok []) (Ok changed), follows)

@@ -1,5 +1,5 @@
 -- What INSERT and UPDATE give columns.
-use Rattle.std.specs.Prelude.{◌≡◌, ℕ, Bool, true, false, ◌==◌, Option, None, Some, Result, Ok, Err, List, [], ◌∷◌, ◌++◌, map, take, length, if◌then◌else◌}
+use Rattle.std.specs.Prelude.{Bool, true, false, ◌==◌, Option, None, Some, Result, Ok, Err, List, [], ◌∷◌, ◌++◌, map, if◌then◌else◌}
 use Rattle.std.specs.Str.{bytes_eq}
 use Rattle.q_base.specs.declared.code.Code.TheVariants.{UnknownRelationColumn, ColumnSpecifiedTwice, SyntaxError, ColumnTypeMismatch}
 use Rattle.q_base.specs.declared.errors.SqlError.{SqlError}

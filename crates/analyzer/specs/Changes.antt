@@ -1,5 +1,5 @@
 -- INSERT, UPDATE and DELETE.
-use Rattle.std.specs.Prelude.{◌≡◌, ℕ, Bool, true, false, ◌==◌, ◌&&◌, nat_le, Option, None, Some, Result, Ok, Err, List, [], ◌∷◌, ◌++◌, map, take, length, codes, if◌then◌else◌}
+use Rattle.std.specs.Prelude.{ℕ, Bool, true, false, ◌==◌, ◌&&◌, nat_le, Option, Result, Ok, Err, List, [], ◌∷◌, ◌++◌, map, take, length, codes, if◌then◌else◌}
 use Rattle.q_base.specs.declared.code.Code.TheVariants.{SyntaxError}
 use Rattle.q_base.specs.declared.errors.SqlError.{SqlError}
 use Rattle.q_value.specs.Conversions.{plain}

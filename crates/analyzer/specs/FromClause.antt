@@ -1,7 +1,6 @@
 -- The items of FROM, and the conditions of ON.
 use Rattle.std.specs.Prelude.{◌≡◌, ℕ, Bool, true, false, Result, Ok, Err, List, [], ◌∷◌, ◌++◌, length, take, drop, map, codes, if◌then◌else◌}
 use Rattle.std.specs.Str.{bytes_eq}
-use Rattle.q_base.specs.declared.errors.SqlError.{SqlError}
 use Rattle.q_base.specs.declared.errors.Stop.{Stop}
 use Rattle.q_base.specs.declared.errors.Stop.TheVariants.{Sql, NoMemory}
 use Rattle.q_base.specs.declared.ids.ObjId.{ObjId}

@@ -1,5 +1,5 @@
 -- SELECT.
-use Rattle.std.specs.Prelude.{◌≡◌, ℕ, suc, Bool, true, false, not, ◌||◌, ◌&&◌, Option, is_some, nat_lt, Result, Ok, Err, List, [], ◌∷◌, ◌++◌, ◌==◌, length, codes, if◌then◌else◌}
+use Rattle.std.specs.Prelude.{◌≡◌, ℕ, suc, Bool, true, false, not, ◌||◌, ◌&&◌, is_some, nat_lt, Result, Ok, Err, List, [], ◌∷◌, ◌++◌, ◌==◌, length, codes, if◌then◌else◌}
 use Rattle.std.specs.Fmt.{decimal}
 use Rattle.q_base.specs.declared.code.Code.TheVariants.{LimitExceeded, UntypedParameter, OrderOrLimitInView}
 use Rattle.q_base.specs.declared.errors.SqlError.{SqlError}

@@ -1,8 +1,7 @@
 -- Tables and views as items see them.
-use Rattle.std.specs.Prelude.{ℕ, zero, suc, Bool, true, false, ◌==◌, Option, None, Some, List, [], ◌∷◌, ◌++◌, length, map, if◌then◌else◌}
+use Rattle.std.specs.Prelude.{ℕ, zero, suc, ◌+◌, Bool, true, false, ◌==◌, Option, None, Some, List, [], ◌∷◌, length, map, if◌then◌else◌}
 use Rattle.query_tree.specs.declared.query.Relation.{Relation}
 use Rattle.query_tree.specs.declared.result.ResultColumn.{ResultColumn}
-use Rattle.query_tree.specs.declared.result.ResultType.{ResultType}
 use Rattle.cat_core.specs.declared.entry.Column.{Column}
 use Rattle.cat_core.specs.declared.entry.Def.{Def}
 use Rattle.cat_core.specs.declared.entry.Def.TheVariants as def
@@ -26,12 +25,19 @@ width_of items = width_from 0 items
 abbrev pub result_column : Column → ResultColumn
 result_column column = record { name = column.name; kind = column.kind }
 
+-- the first column, where it has the id
+abbrev pub column_at : ℕ → List Column → Option ResultColumn
+column_at id [] = None
+column_at id (column ∷ columns) = if column.id.0 == id then Some (result_column column) else None
+
+abbrev pub behind_id : ℕ → List Column → List Column
+behind_id id [] = []
+behind_id id (column ∷ columns) = if column.id.0 == id then columns else column ∷ columns
+
 -- columns by their ids, from an id on and as many as are said, with a gap for each that was dropped
 abbrev pub placed_from : ℕ → ℕ → List Column → List (Option ResultColumn)
 placed_from zero id columns = []
-placed_from (suc more) id [] = None ∷ placed_from more (suc id) []
-placed_from (suc more) id (column ∷ columns) =
-    if column.id.0 == id then Some (result_column column) ∷ placed_from more (suc id) columns else None ∷ placed_from more (suc id) (column ∷ columns)
+placed_from (suc more) id columns = column_at id columns ∷ placed_from more (id + 1) (behind_id id columns)
 
 abbrev pub all_columns : List ResultColumn → List (Option ResultColumn)
 all_columns columns = map (λ column. Some column) columns

@@ -1,5 +1,5 @@
 -- The analysis of a statement.
-use Rattle.std.specs.Prelude.{◌≡◌, ℕ, Bool, true, false, Option, None, Some, Result, Ok, Err, List, [], ◌∷◌, length, ◌==◌, if◌then◌else◌}
+use Rattle.std.specs.Prelude.{◌≡◌, Bool, true, false, Option, None, Some, Result, Ok, Err, List, [], ◌∷◌, if◌then◌else◌}
 use Rattle.q_base.specs.declared.errors.SqlError.{SqlError}
 use Rattle.q_base.specs.declared.ids.ObjId.{ObjId}
 use Rattle.q_base.specs.declared.errors.Stop.{Stop}
@@ -13,7 +13,6 @@ use Rattle.query_tree.specs.declared.statement.Bound.{Bound}
 use Rattle.query_tree.specs.declared.statement.Bound.TheVariants as bound
 use Rattle.query_tree.specs.declared.result.ResultColumn.{ResultColumn}
 use Rattle.query_tree.specs.declared.result.ResultType.{ResultType}
-use Rattle.query_tree.specs.declared.target.Target.{Target}
 use Rattle.sql_tree.specs.declared.names.QName.{QName}
 use Rattle.sql_tree.specs.declared.rows.DeleteTree.{DeleteTree}
 use Rattle.sql_tree.specs.declared.rows.InsertTree.{InsertTree}

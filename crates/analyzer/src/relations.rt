@@ -101,15 +101,30 @@ fn placed_columns(
     let mut found = ListOf::new(alloc);
     let mut rest = columns;
     for id in 0..next_column {
-        match rest {
-            [column, others @ ..] if column.id.0 == id => {
-                found.push(Some(result_column(alloc, column)?))?;
-                rest = others;
-            }
-            _ => found.push(None)?,
-        }
+        found.push(column_at(alloc, id, rest)?)?;
+        rest = behind_id(id, rest);
     }
     Ok(found)
+}
+
+/// The first column, where it has the id.
+fn column_at(alloc: Global, id: u32, columns: &[Column]) -> Result<Option<ResultColumn>, NoMemory>
+    ensures { IfOk result (λ found. found ≡ spec.column_at id columns.now) }
+{
+    match columns {
+        [column, ..] if column.id.0 == id => Ok(Some(result_column(alloc, column)?)),
+        _ => Ok(None),
+    }
+}
+
+/// The columns behind an id.
+fn behind_id(id: u32, columns: &[Column]) -> &[Column]
+    ensures { result.now ≡ spec.behind_id id columns.now }
+{
+    match columns {
+        [column, others @ ..] if column.id.0 == id => others,
+        _ => columns,
+    }
 }
 
 fn result_column(alloc: Global, column: &Column) -> Result<ResultColumn, NoMemory>

@@ -206,10 +206,13 @@ fn finish_select(
         ..
     } = state;
     match ids_of(alloc, items.as_slice()) {
-        Ok(ids) => {
-            let typed = query_of(alloc, items, select, parts, aggregates);
-            select_analysed(alloc, ids, known, typed)
-        }
+        Ok(ids) => match query_of(alloc, items, select, parts, aggregates) {
+            Ok(typed) => select_analysed(alloc, ids, known, typed),
+            Err(stop) => {
+                drop(ids);
+                Err(stop)
+            }
+        },
         Err(stop) => {
             drop(items);
             drop(parts);
@@ -223,11 +226,11 @@ fn select_analysed(
     alloc: Global,
     ids: NameIds,
     known: KnownList,
-    typed: Result<Typed, NoMemory>,
+    typed: Typed,
 ) -> Result<Analysed, NoMemory>
-    ensures { IfOk result (λ a. IfOk typed (λ t. spec.seen a ≡ spec.found_of (bound.Select t.query) ids known (Some t.columns))) }
+    ensures { IfOk result (λ a. spec.seen a ≡ spec.found_of (bound.Select typed.query) ids known (Some typed.columns)) }
 {
-    let Typed { query, columns } = typed?;
+    let Typed { query, columns } = typed;
     complete(alloc, Bound::Select(query), ids, known, Some(columns))
 }
 
@@ -327,6 +330,12 @@ fn relation_in(items: [ScopeItem; 1]) -> Relation
     ensures { result ≡ spec.relation_in items }
 {
     let [item] = items;
+    relation_alone(item)
+}
+
+fn relation_alone(item: ScopeItem) -> Relation
+    ensures { result ≡ item.relation }
+{
     let ScopeItem { relation, .. } = item;
     relation
 }

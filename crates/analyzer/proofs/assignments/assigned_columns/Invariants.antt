@@ -1,4 +1,4 @@
-use Rattle.std.proofs.Common.{◌≡◌, [], ◌++◌, map, take, drop, length}
+use Rattle.std.proofs.Common.{◌≡◌, take}
 use Rattle.analyzer.specs.Assignments.{assigned_columns}
 use Rattle.analyzer.proofs.assignments.assigned_columns.Given as goal
 

@@ -1,4 +1,4 @@
-use Rattle.std.proofs.Common.{◌≡◌, [], ◌++◌, map, take, drop, length}
+use Rattle.std.proofs.Common.{◌≡◌, drop}
 use Rattle.analyzer.specs.Assignments.{check_known}
 use Rattle.analyzer.proofs.assignments.check_known.Given as goal
 

@@ -1,4 +1,4 @@
-use Rattle.std.proofs.Common.{◌≡◌, [], ◌++◌, map, take, drop, length}
+use Rattle.std.proofs.Common.{◌≡◌, drop}
 use Rattle.analyzer.specs.Assignments.{column_named}
 use Rattle.analyzer.proofs.assignments.column_named.Given as goal
 

@@ -1,4 +1,4 @@
-use Rattle.std.proofs.Common.{◌≡◌, [], ◌++◌, map, take, drop, length}
+use Rattle.std.proofs.Common.{◌≡◌, [], drop}
 use Rattle.analyzer.specs.Assignments.{named_from}
 use Rattle.analyzer.proofs.assignments.named_columns.Given as goal
 

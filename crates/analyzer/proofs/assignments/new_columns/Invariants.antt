@@ -1,4 +1,4 @@
-use Rattle.std.proofs.Common.{◌≡◌, [], ◌++◌, map, take, drop, length}
+use Rattle.std.proofs.Common.{◌≡◌, map, take}
 use Rattle.analyzer.specs.Assignments.{new_column}
 use Rattle.analyzer.proofs.assignments.new_columns.Given as goal
 

@@ -1,4 +1,4 @@
-use Rattle.std.proofs.Common.{◌≡◌, [], ◌++◌, map, take, drop, length}
+use Rattle.std.proofs.Common.{◌≡◌, [], drop}
 use Rattle.analyzer.specs.Assignments.{defaults_from}
 use Rattle.analyzer.proofs.assignments.other_defaults.Given as goal
 

@@ -1,4 +1,4 @@
-use Rattle.std.proofs.Common.{◌≡◌, [], ◌++◌, map, take, drop, length}
+use Rattle.std.proofs.Common.{◌≡◌, [], take, drop}
 use Rattle.analyzer.specs.Assignments.{repeated_from}
 use Rattle.analyzer.proofs.assignments.repeated.Given as goal
 

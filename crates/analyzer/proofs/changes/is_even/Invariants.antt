@@ -1,4 +1,4 @@
-use Rattle.std.proofs.Common.{◌≡◌, [], ◌++◌, map, take, drop, length}
+use Rattle.std.proofs.Common.{◌≡◌, drop}
 use Rattle.analyzer.specs.Changes.{is_even}
 use Rattle.analyzer.proofs.changes.is_even.Given as goal
 

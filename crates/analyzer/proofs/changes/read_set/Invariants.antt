@@ -1,4 +1,4 @@
-use Rattle.std.proofs.Common.{◌≡◌, [], ◌++◌, map, take, drop, length}
+use Rattle.std.proofs.Common.{◌≡◌, [], drop}
 use Rattle.analyzer.specs.Changes.{set_from}
 use Rattle.analyzer.proofs.changes.read_set.Given as goal
 

@@ -1,4 +1,4 @@
-use Rattle.std.proofs.Common.{◌≡◌, [], ◌++◌, map, take, drop, length}
+use Rattle.std.proofs.Common.{◌≡◌, take}
 use Rattle.analyzer.specs.Changes.{set_names}
 use Rattle.analyzer.proofs.changes.set_names.Given as goal
 

@@ -1,4 +1,4 @@
-use Rattle.std.proofs.Common.{◌≡◌, [], ◌++◌, map, take, drop, length}
+use Rattle.std.proofs.Common.{◌≡◌, take}
 use Rattle.analyzer.specs.FromClause.{ids_of}
 use Rattle.analyzer.proofs.from_clause.ids_of.Given as goal
 

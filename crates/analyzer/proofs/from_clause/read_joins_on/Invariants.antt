@@ -1,4 +1,4 @@
-use Rattle.std.proofs.Common.{◌≡◌, [], ◌++◌, map, take, drop, length}
+use Rattle.std.proofs.Common.{◌≡◌, drop}
 use Rattle.expr_analysis.specs.Sights.{sight}
 use Rattle.analyzer.specs.FromClause.{joins_on}
 use Rattle.analyzer.proofs.from_clause.read_joins_on.Given as goal

@@ -1,4 +1,4 @@
-use Rattle.std.proofs.Common.{◌≡◌, [], ◌++◌, map, take, drop, length}
+use Rattle.std.proofs.Common.{◌≡◌, map, drop}
 use Rattle.analyzer.specs.Grouping.{ungrouped, first_of}
 use Rattle.analyzer.proofs.grouping.+ungrouped.Given as goal
 

@@ -1,4 +1,4 @@
-use Rattle.std.proofs.Common.{◌≡◌, [], ◌++◌, map, take, drop, length}
+use Rattle.std.proofs.Common.{◌≡◌, drop}
 use Rattle.expr_analysis.specs.Sights.{sight}
 use Rattle.analyzer.specs.Grouping.{check_order}
 use Rattle.analyzer.proofs.grouping.check_order.Given as goal

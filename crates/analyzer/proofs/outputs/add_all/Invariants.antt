@@ -1,4 +1,4 @@
-use Rattle.std.proofs.Common.{◌≡◌, [], ◌++◌, map, take, drop, length}
+use Rattle.std.proofs.Common.{◌≡◌, drop}
 use Rattle.analyzer.specs.Outputs.{items_columns}
 use Rattle.analyzer.proofs.outputs.add_all.Given as goal
 

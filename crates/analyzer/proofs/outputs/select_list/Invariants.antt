@@ -1,4 +1,4 @@
-use Rattle.std.proofs.Common.{◌≡◌, [], ◌++◌, map, take, drop, length}
+use Rattle.std.proofs.Common.{◌≡◌, [], drop}
 use Rattle.expr_analysis.specs.Sights.{sight}
 use Rattle.analyzer.specs.Outputs.{outputs_from}
 use Rattle.analyzer.proofs.outputs.select_list.Given as goal

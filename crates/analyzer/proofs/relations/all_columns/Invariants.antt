@@ -1,4 +1,4 @@
-use Rattle.std.proofs.Common.{◌≡◌, [], ◌++◌, map, take, drop, length}
+use Rattle.std.proofs.Common.{◌≡◌, take}
 use Rattle.analyzer.specs.Relations.{all_columns}
 use Rattle.analyzer.proofs.relations.all_columns.Given as goal
 

@@ -1,4 +1,4 @@
-use Rattle.std.proofs.Common.{◌≡◌, [], ◌++◌, map, take, drop, length, ◌-◌}
+use Rattle.std.proofs.Common.{◌≡◌, ◌++◌, ◌-◌}
 use Rattle.analyzer.specs.Relations.{placed_from}
 use Rattle.analyzer.proofs.relations.placed_columns.Given as goal
 

@@ -1,4 +1,4 @@
-use Rattle.std.proofs.Common.{◌≡◌, [], ◌++◌, map, take, drop, length}
+use Rattle.std.proofs.Common.{◌≡◌, drop}
 use Rattle.analyzer.specs.Relations.{width_from}
 use Rattle.analyzer.proofs.relations.width_of.Given as goal
 

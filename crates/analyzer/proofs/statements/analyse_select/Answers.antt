@@ -1,5 +1,5 @@
-use Rattle.analyzer.proofs.Places.{over_items}
+use Rattle.analyzer.proofs.Places.{over_written}
 use Rattle.analyzer.proofs.statements.analyse_select.Goals as goal
 
 pub returns : goal.returns
-returns c = over_items _ _ _ _ c.select_items.ensures c.select_over.ensures
+returns c = over_written _ _ _ _ _ c.as_slice.ensures c.select_items-found.ensures c.select_over.ensures
