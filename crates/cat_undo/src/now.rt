@@ -1,6 +1,7 @@
-ghost use Rattle.std.specs.Prelude.{◌≡◌, is_some, if◌then◌else◌};
-ghost use Rattle.cat_core.specs.Stamps.{stamp_in};
+ghost use Rattle.std.specs.Prelude.{◌≡◌, ◌&&◌, nat_lt, is_some, length, IfSome, None, if◌then◌else◌};
+ghost use Rattle.cat_core.specs.Stamps.{stamp_in, with_stamp};
 ghost use Rattle.cat_undo.specs.Marked as spec;
+ghost use Rattle.cat_undo.specs.Restored as restored;
 
 use cat_core::{Catalog, Entry, Stamps, Undo};
 use q_base::{NoMemory, ObjId, Stamp, Touched};
@@ -63,7 +64,11 @@ impl Now {
         id: ObjId,
         told: u32,
         marks: &mut T,
-    ) -> Option<Undo> {
+    ) -> Option<Undo>
+        ensures stamp { IfSome result (λ _. self.new.stamps ≡ record self.old.stamps { rows = with_stamp id None self.old.stamps.rows }) }
+        ensures told { marks.new ≡ (if is_some result && nat_lt id.0 told then T.hear marks.old id else marks.old) }
+        ensures last_stamp { self.new.last_stamp ≡ self.old.last_stamp }
+    {
         let undo = self.catalog.drop_entry(id)?;
         self.stamps.give(id, None);
         if id.0 < told {
@@ -100,7 +105,10 @@ impl Now {
     /// Gives each object whose entry was taken back its stamp: that of now where it was handed out no later than
     /// `copied`, else the next; none where the object is gone. `marks` is told of each that changed, and last the same
     /// of the stamp of all.
-    pub(crate) fn settle<T: Touched>(&mut self, copied: u64, marks: &mut T) {
+    pub(crate) fn settle<T: Touched>(&mut self, copied: u64, marks: &mut T)
+        ensures state { self.new ≡ restored.all_settled copied (restored.settled (length self.old.stamps.rows) copied self.old) }
+        ensures told { marks.new ≡ restored.all_heard T.hear_all copied self.old (restored.heard T.hear (restored.told_settled (length self.old.stamps.rows) copied self.old) marks.old) }
+    {
         for place in 0..self.stamps.rows().len() {
             self.settle_at(place, copied, marks);
         }
@@ -109,35 +117,35 @@ impl Now {
         }
     }
 
-    fn settle_at<T: Touched>(&mut self, place: usize, copied: u64, marks: &mut T) {
+    fn settle_at<T: Touched>(&mut self, place: usize, copied: u64, marks: &mut T)
+        ensures state { self.new ≡ restored.settled_at place copied self.old }
+        ensures told { marks.new ≡ restored.heard T.hear (restored.told_at place self.old.catalog.slots copied self.old.last_stamp self.old.stamps.rows) marks.old }
+    {
         let Some(row) = self.stamps.rows().get(place) else {
             return;
         };
         let id = row.id;
         let stamp = row.stamp;
-        if self.catalog.entry(id).is_some() {
-            self.settle_there(place, id, stamp, copied, marks);
-        } else if stamp.is_some() {
-            self.stamps.give_at(place, None);
-            marks.touched(id);
+        let there = self.catalog.entry(id).is_some();
+        match self.new_stamp(there, copied, stamp) {
+            Some(new) => {
+                self.stamps.give_at(place, new);
+                marks.touched(id);
+            }
+            None => {}
         }
     }
 
-    fn settle_there<T: Touched>(
-        &mut self,
-        place: usize,
-        id: ObjId,
-        stamp: Option<Stamp>,
-        copied: u64,
-        marks: &mut T,
-    ) {
+    // The stamp that an object of the restored catalog gets, where it gets another.
+    fn new_stamp(&mut self, there: bool, copied: u64, stamp: Option<Stamp>) -> Option<Option<Stamp>>
+        ensures stamp { result ≡ restored.new_stamp there copied self.old.last_stamp stamp }
+        ensures state { self.new ≡ record self.old { last_stamp = restored.last_with (restored.new_stamp there copied self.old.last_stamp stamp) self.old.last_stamp } }
+    {
         match stamp {
-            Some(stamp) if stamp.0 <= copied => {}
-            _ => {
-                let next = self.next_stamp();
-                self.stamps.give_at(place, Some(next));
-                marks.touched(id);
-            }
+            Some(_) if !there => Some(None),
+            None if !there => None,
+            Some(stamp) if stamp.0 <= copied => None,
+            _ => Some(Some(self.next_stamp())),
         }
     }
 

@@ -1,6 +1,7 @@
-ghost use Rattle.std.specs.Prelude.{◌≡◌, is_some, length};
+ghost use Rattle.std.specs.Prelude.{◌≡◌, ◌↔◌, ◌≤◌, ◌^◌, ◌-◌, IsTrue, IfOk, is_some, length, filter, [], if◌then◌else◌};
 ghost use Rattle.cat_core.specs.Stamps.{stamp_in};
-ghost use Rattle.cat_undo.specs.Marked as spec;
+ghost use Rattle.cat_undo.specs.Marked as marked;
+ghost use Rattle.cat_undo.specs.Store as spec;
 
 use crate::now::Now;
 use cat_core::{Catalog, Change, Changes, Stamps, Undo};
@@ -84,7 +85,9 @@ impl CatStore {
     }
 
     /// Whether a mark may stand: so many steps can be taken back, and so many stamps were handed out.
-    pub fn stands(&self, mark: CatMark) -> bool {
+    pub fn stands(&self, mark: CatMark) -> bool
+        ensures { IsTrue result ↔ (mark.changes ≤ length self.now.log.items) × (mark.stamps ≤ self.now.held.last_stamp) }
+    {
         mark.changes <= self.log.len() && mark.stamps <= self.held.last_stamp
     }
 
@@ -113,14 +116,19 @@ impl CatStore {
     }
 
     /// Gives an object the next stamp and tells `marks` of it. It does nothing where the object isn't there.
-    pub fn touch<T: Touched>(&mut self, id: ObjId, marks: &mut T) {
+    pub fn touch<T: Touched>(&mut self, id: ObjId, marks: &mut T)
+        ensures state { self.new.held ≡ marked.touched id self.old.held }
+        ensures told { marks.new ≡ (if marked.is_told id (2 ^ 32 - 1) self.old.held then T.hear marks.old id else marks.old) }
+        ensures log { self.new.log ≡ self.old.log }
+    {
         self.held.touch(id, u32::MAX, marks);
     }
 
     /// Gives the catalog as a whole the next stamp, and tells `marks`.
     pub fn touch_all<T: Touched>(&mut self, marks: &mut T)
-        ensures state { self.new.held ≡ spec.touched_all self.old.held }
+        ensures state { self.new.held ≡ marked.touched_all self.old.held }
         ensures told { marks.new ≡ T.hear_all marks.old }
+        ensures log { self.new.log ≡ self.old.log }
     {
         self.held.touch_all(marks);
     }
@@ -129,13 +137,40 @@ impl CatStore {
     /// absent now, gets the next stamp and is told to `marks`, in ascending order of ids; one that is there now and not in
     /// the mark goes and is told. Where the stamp of all has changed since, it gets the next stamp last, and
     /// `touched_all` is told. No id and no stamp is free again.
-    pub fn rollback_to<T: Touched>(&mut self, mark: CatMark, marks: &mut T) {
-        take_back(&mut self.held.catalog, &mut self.log, mark.changes);
+    pub fn rollback_to<T: Touched>(&mut self, mark: CatMark, marks: &mut T)
+        ensures state { spec.RolledBack mark self.old self.new }
+        ensures told { marks.new ≡ spec.all_heard T.hear_all mark.stamps self.old.held (spec.heard T.hear (spec.told_back mark self.old) marks.old) }
+    {
+        let count = self.log.len().saturating_sub(mark.changes);
+        self.take_back(count);
         self.held.settle(mark.stamps, marks);
     }
 
+    // Takes so many steps back, the last first.
+    fn take_back(&mut self, count: usize)
+        ensures { spec.IsBack count self.old self.new }
+    {
+        for _turn in 0..count {
+            self.take_last_back();
+        }
+    }
+
+    fn take_last_back(&mut self)
+        ensures { spec.IsBack 1 self.old self.new }
+    {
+        if let Some(undo) = self.log.pop() {
+            self.held.catalog.take_back(undo);
+        }
+    }
+
     /// Gives up what takes changes back, as COMMIT does.
-    pub fn forget(&mut self) {
+    pub fn forget(&mut self)
+        ensures slots { self.new.held.catalog.slots ≡ filter (λ slot. is_some slot.entry) self.old.held.catalog.slots }
+        ensures next_id { self.new.held.catalog.next_id ≡ self.old.held.catalog.next_id }
+        ensures stamps { self.new.held.stamps ≡ record self.old.held.stamps { rows = filter (λ row. is_some row.stamp) self.old.held.stamps.rows } }
+        ensures last_stamp { self.new.held.last_stamp ≡ self.old.held.last_stamp }
+        ensures log { self.new.log.items ≡ [] }
+    {
         self.held.catalog.forget();
         self.held.stamps.forget();
         self.log.truncate(0);
@@ -149,7 +184,9 @@ fn step<T: Touched>(
     change: Change,
     told: u32,
     marks: &mut T,
-) -> Result<Option<Undo>, NoMemory> {
+) -> Result<Option<Undo>, NoMemory>
+    ensures { IfOk result (λ undo. marks.new ≡ marked.told_of change (is_some undo) told now.old T.hear T.hear_all marks.old) }
+{
     match change {
         Change::PutEntry(entry) => now.put(alloc, entry),
         Change::DropEntry(id) => Ok(now.drop_entry(id, told, marks)),
@@ -162,15 +199,6 @@ fn step<T: Touched>(
         Change::TouchAll => {
             now.touch_all(marks);
             Ok(None)
-        }
-    }
-}
-
-// Takes steps back until so many are left.
-fn take_back(catalog: &mut Catalog, log: &mut Vec<Undo>, left: usize) {
-    for _step in left..log.len() {
-        if let Some(undo) = log.pop() {
-            catalog.take_back(undo);
         }
     }
 }

@@ -1,0 +1,2 @@
+mod Restoring
+mod Undone
