@@ -144,7 +144,6 @@ fn pull_behind(
 }
 
 /// The next row that LIMIT and OFFSET leave of the projected list of a node.
-#[tactic(auto, using(crate::proofs::Firsts::taken_first))]
 fn give_from(
     window: &mut Window,
     state: &mut State,
