@@ -1,11 +1,9 @@
 -- The first of the rows that LIMIT leaves, and those that OFFSET leaves out.
-use Rattle.std.proofs.Common.{◌≡◌, ℕ, ◌+◌, ◌-◌, ◌<◌, Option, None, Some, Result, Ok, Err, List, [], ◌∷◌, take, suc, zero, refl, ap, ◌∙◌, subst, sym, arith}
+use Rattle.std.proofs.Common.{◌≡◌, ℕ, ◌+◌, ◌-◌, ◌<◌, Option, None, Some, Result, Ok, Err, [], ◌∷◌, take, suc, zero, refl, ap, ◌∙◌, subst, sym, arith}
 use Rattle.q_scalar.specs.declared.eval.EvalStop.{EvalStop}
 use Rattle.q_scalar.specs.declared.eval.EvalStop.TheVariants.{Fault, NoMemory}
-use Rattle.executor.specs.declared.cut.Window.{Window}
-use Rattle.executor.specs.declared.cut.Window.TheVariants as window
 use Rattle.executor.specs.declared.found.Found.{Found}
-use Rattle.executor.specs.Cuts.{skipped, windowed}
+use Rattle.executor.specs.Cuts.{skipped}
 use Rattle.executor.specs.Lists.{Rows}
 use Rattle.executor.specs.Yields.{YieldsFirst}
 
@@ -19,9 +17,9 @@ first_of m rows new (Ok (Some found)) is = ap (take (suc m)) is
 first_of m rows new (Err (Fault code)) is = ap (take (suc m)) is ∙ ap (λ (more : Rows). Err code ∷ more) (none_of m)
 first_of m rows new (Err NoMemory) is = tt
 
-pub limited_first : (cut : Window) (skip n m : ℕ) (rows new : Rows) (result : Result (Option Found) EvalStop) → cut ≡ window.Rows skip (Some n) → n ≡ suc m → YieldsFirst (skipped skip rows) result new → YieldsFirst (windowed cut rows) result (take m new)
-limited_first cut skip n m rows new result is counts given =
-    subst (λ (before : Rows). YieldsFirst before result (take m new)) (ap (λ (k : ℕ). take k (skipped skip rows)) (sym counts) ∙ ap (λ (w : Window). windowed w rows) (sym is)) (first_of m (skipped skip rows) new result given)
+pub limited_first : (n m : ℕ) (rows new : Rows) (result : Result (Option Found) EvalStop) → n ≡ suc m → YieldsFirst rows result new → YieldsFirst (take n rows) result (take m new)
+limited_first n m rows new result counts given =
+    subst (λ (k : ℕ). YieldsFirst (take k rows) result (take m new)) (sym counts) (first_of m rows new result given)
 
 pub one_skipped : (skip k : ℕ) (found : Found) (old new : Rows) → k < skip → old ≡ Ok found ∷ new → skipped (skip - (k + 1)) new ≡ skipped (skip - k) old
 one_skipped skip k found old new below is =

@@ -1,5 +1,5 @@
 -- The rows whose targets no row before them has.
-use Rattle.std.specs.Prelude.{◌≡◌, ℕ, Bool, true, false, if◌then◌else◌, Option, None, Some, is_some, Result, Ok, Err, List, [], ◌∷◌, find}
+use Rattle.std.specs.Prelude.{◌≡◌, ℕ, Bool, true, false, if◌then◌else◌, Option, None, is_some, Result, Ok, Err, List, [], ◌∷◌, find}
 use Rattle.q_base.specs.declared.ids.SlotId.{SlotId}
 use Rattle.q_value.specs.declared.value.Value.{Value}
 use Rattle.query_tree.specs.declared.target.Target.{Target}
