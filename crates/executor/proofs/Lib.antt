@@ -1,6 +1,6 @@
 mod Ends
 mod Firsts
+mod Matched
 mod RowOrders
 mod Sorted
-mod Stops
 mod Turns

@@ -1,5 +1,5 @@
 -- The order of rows by their sort keys is total.
-use Rattle.std.proofs.Common.{◌≡◌, ℕ, Bool, List, [], ◌∷◌, suc}
+use Rattle.std.proofs.Common.{ℕ, Bool, List, [], ◌∷◌, suc}
 use Rattle.std.specs.Cmp.{IsTotalOrder, IsStrictWeakOrder}
 use Rattle.std.specs.Cmp.Derive.{point_total}
 use Rattle.std.proofs.lemmas.Cmp.{then_total, on_total}
@@ -9,7 +9,7 @@ use Rattle.q_value.specs.Order.{sort_cmp}
 use Rattle.query_tree.specs.declared.query.SortKey.{SortKey}
 use Rattle.query_tree.specs.Evaluation.{value_at}
 use Rattle.executor.specs.declared.ordered.Keyed.{Keyed}
-use Rattle.executor.specs.Sorts.{order_at, order_from, order_rows, comes_before}
+use Rattle.executor.specs.Sorts.{order_at, order_from, comes_before}
 
 order_total : ((desc nulls_first : Bool) → IsTotalOrder (sort_cmp desc nulls_first)) → (at : ℕ) (keys : List SortKey) → IsTotalOrder (order_from at keys)
 unfolding order_at

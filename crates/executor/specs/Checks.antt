@@ -1,12 +1,10 @@
 -- What a Check makes of its candidates.
-use Rattle.std.specs.Prelude.{◌≡◌, ℕ, nat_le, Bool, true, false, if◌then◌else◌, Option, None, Some, Result, Ok, Err, List, [], ◌∷◌, ◌++◌}
+use Rattle.std.specs.Prelude.{ℕ, nat_le, Bool, true, false, if◌then◌else◌, Option, None, Some, Result, Ok, Err, List, [], ◌∷◌, ◌++◌}
 use Rattle.q_base.specs.declared.code.Code.{Code}
 use Rattle.q_base.specs.declared.code.Code.TheVariants.{SmallintOutOfRange, IntegerOutOfRange, BigintOutOfRange}
 use Rattle.q_value.specs.declared.value.Value.{Value}
 use Rattle.query_tree.specs.declared.target.Target.{Target}
 use Rattle.executor.specs.declared.found.Found.{Found}
-use Rattle.q_scalar.specs.declared.eval.EvalStop.{EvalStop}
-use Rattle.q_scalar.specs.declared.eval.EvalStop.TheVariants.{Fault, NoMemory}
 use Rattle.executor.specs.Lists.{Rows, judged}
 
 -- the candidates so far on which all conditions are true, and the fault to tell, if one faulted

@@ -1,5 +1,5 @@
 -- LIMIT and OFFSET.
-use Rattle.std.specs.Prelude.{◌≡◌, ℕ, zero, suc, Option, None, Some, Result, Ok, Err, List, [], ◌∷◌, take}
+use Rattle.std.specs.Prelude.{ℕ, zero, suc, Option, None, Some, Ok, Err, [], ◌∷◌, take}
 use Rattle.executor.specs.declared.cut.Window.{Window}
 use Rattle.executor.specs.declared.cut.Window.TheVariants as window
 use Rattle.executor.specs.Lists.{Rows}

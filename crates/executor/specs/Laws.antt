@@ -1,6 +1,6 @@
 -- The laws of a run as a feed of rows.
 use Rattle.std.specs.Prelude.{◌≡◌, ◌↔◌, ℕ, suc, zero, Bool, true, false, if◌then◌else◌, Option, None, Some, Result, Ok, Err, List, [], ◌∷◌, map, take}
-use Rattle.std.proofs.Common.{refl, sym, ap, ◌∙◌, subst}
+use Rattle.std.proofs.Common.{refl, ap, ◌∙◌}
 use Rattle.std.proofs.Math.Path.{fun_ext}
 use Rattle.q_base.specs.declared.code.Code.{Code}
 use Rattle.q_value.specs.declared.value.Value.{Value}
@@ -8,13 +8,12 @@ use Rattle.q_value.specs.Feed.{EndsAtFault}
 use Rattle.query_tree.specs.declared.target.Target.{Target}
 use Rattle.executor.specs.declared.cut.Window.{Window}
 use Rattle.executor.specs.declared.cut.Window.TheVariants as window
-use Rattle.executor.specs.declared.found.Found.{Found}
 use Rattle.executor.specs.declared.run.Run.{Run}
 use Rattle.executor.specs.declared.stores.Stores.{Stores}
 use Rattle.executor.specs.Cuts.{skipped, first_rows, windowed}
 use Rattle.executor.specs.Lists.{Rows, before, projected, values_from}
 use Rattle.executor.specs.Rest.{rest_of}
-use Rattle.executor.specs.Runs.{run_rest, projection, outcome_of, Alike, AreAlike, FitsAll}
+use Rattle.executor.specs.Runs.{run_rest, projection, outcome_of, AreAlike, FitsAll}
 use Rattle.executor.specs.Scans.{Scan, Along, scan_of, along_of}
 
 with_scan : (run : Run) (scan scan2 : Scan) (along : Along) → scan ≡ scan2 → rest_of scan along run.params run.state ≡ rest_of scan2 along run.params run.state

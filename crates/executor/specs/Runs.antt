@@ -1,7 +1,6 @@
 -- What is left of a run.
-use Rattle.std.specs.Prelude.{◌≡◌, ℕ, Bool, true, false, if◌then◌else◌, Option, None, Some, Result, Ok, Err, List, [], ◌∷◌, map}
+use Rattle.std.specs.Prelude.{◌≡◌, ℕ, if◌then◌else◌, Option, Result, Ok, Err, List, [], map}
 use Rattle.q_base.specs.declared.ids.ObjId.{ObjId}
-use Rattle.q_value.specs.declared.value.Value.{Value}
 use Rattle.q_base.specs.declared.code.Code.{Code}
 use Rattle.q_value.specs.declared.value.Outcome.{Outcome}
 use Rattle.q_value.specs.declared.value.Outcome.TheVariants as outcome

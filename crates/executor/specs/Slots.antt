@@ -1,7 +1,6 @@
 -- The slots of the rows of a list.
-use Rattle.std.specs.Prelude.{◌≡◌, ℕ, Option, None, Some, Result, Ok, Err, List, [], ◌∷◌, ◌++◌}
+use Rattle.std.specs.Prelude.{ℕ, Option, None, Some, Ok, Err, List, [], ◌∷◌, ◌++◌}
 use Rattle.q_base.specs.declared.ids.SlotId.{SlotId}
-use Rattle.executor.specs.declared.found.Found.{Found}
 use Rattle.executor.specs.Lists.{Rows}
 use Rattle.executor.specs.Uniques.{numbered}
 

@@ -1,7 +1,6 @@
 -- The rows whose targets no row before them has.
-use Rattle.std.specs.Prelude.{◌≡◌, ℕ, Bool, true, false, if◌then◌else◌, Option, None, Some, is_some, Result, Ok, Err, List, [], ◌∷◌, find}
+use Rattle.std.specs.Prelude.{◌≡◌, ℕ, Bool, true, false, if◌then◌else◌, Option, None, is_some, Result, Ok, Err, List, [], ◌∷◌, find}
 use Rattle.q_base.specs.declared.ids.SlotId.{SlotId}
-use Rattle.q_scalar.specs.declared.eval.EvalStop.{EvalStop}
 use Rattle.q_value.specs.declared.value.Value.{Value}
 use Rattle.query_tree.specs.declared.target.Target.{Target}
 use Rattle.row_index.specs.declared.entries.IndexPlace.{IndexPlace}
@@ -26,7 +25,7 @@ abbrev pub with_seen : List Value → List IndexPlace → List IndexPlace
 with_seen key seen = with_entry (entry_of key (numbered 0)) seen
 
 -- a call tells whether a key is new, and adds it
-abbrev pub Notes : List Value → List IndexPlace → List IndexPlace → Result Bool EvalStop → Type 0
+abbrev pub Notes : List Value → List IndexPlace → List IndexPlace → {E : Type 0} → Result Bool E → Type 0
 Notes key old new (Ok true) = (is_some (entry_at key old) ≡ false) × (new ≡ with_seen key old)
 Notes key old new (Ok false) = (is_some (entry_at key old) ≡ true) × (new ≡ old)
 Notes key old new (Err stop) = Unit {0}

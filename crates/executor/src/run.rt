@@ -1,4 +1,4 @@
-ghost use Rattle.std.specs.Prelude.{◌≡◌};
+ghost use Rattle.std.specs.Prelude.{◌≡◌, take};
 ghost use Rattle.executor.specs.Cuts.{skipped, windowed};
 ghost use Rattle.executor.specs.Lists.{projected};
 ghost use Rattle.executor.specs.Rest.{left_at};
@@ -144,7 +144,6 @@ fn pull_behind(
 }
 
 /// The next row that LIMIT and OFFSET leave of the projected list of a node.
-#[tactic(auto, using(crate::proofs::Firsts::taken_first))]
 fn give_from(
     window: &mut Window,
     state: &mut State,
@@ -158,16 +157,36 @@ fn give_from(
 {
     match *window {
         Window::Fault(code) => Err(EvalStop::Fault(code)),
-        Window::Rows(_, Some(0)) => Ok(None),
-        Window::Rows(skip, Some(count)) => {
-            *window = Window::Rows(0, Some(count - 1));
-            pull_behind(state, alloc, stores, params, snap, targets, skip)
-        }
+        Window::Rows(skip, Some(count)) => give_limited(
+            window, state, alloc, stores, params, snap, targets, skip, count,
+        ),
         Window::Rows(skip, None) => {
             *window = Window::Rows(0, None);
             pull_behind(state, alloc, stores, params, snap, targets, skip)
         }
     }
+}
+
+/// The next of the rows that a count leaves behind those that are skipped.
+fn give_limited(
+    window: &mut Window,
+    state: &mut State,
+    alloc: Global,
+    stores: &Stores,
+    params: &[Value],
+    snap: Snap,
+    targets: &[Target],
+    skip: u64,
+    count: u64,
+) -> Result<Option<Found>, EvalStop>
+    ensures { YieldsFirst (take count (skipped skip (projected targets.now params.now (left_at stores.now snap params.now state.old)))) result (windowed window.new (projected targets.now params.now (left_at stores.now snap params.now state.new))) }
+{
+    if count == 0 {
+        return Ok(None);
+    }
+    let left = count - 1;
+    *window = Window::Rows(0, Some(left));
+    pull_behind(state, alloc, stores, params, snap, targets, skip)
 }
 
 fn window_at(alloc: Global, node: &Node, params: &[Value]) -> Result<Window, NoMemory> {

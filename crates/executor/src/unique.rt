@@ -1,13 +1,12 @@
 ghost use Rattle.std.specs.Prelude.{◌≡◌};
 ghost use Rattle.executor.specs.Uniques as spec;
 
-use q_base::SlotId;
-use q_scalar::EvalStop;
+use q_base::{NoMemory, SlotId};
 use q_value::Row;
 use row_index::{Index, KeyRange};
 
 /// Whether a key is new among those seen, to which it is added.
-pub(crate) fn is_new(seen: &mut Index, key: Row) -> Result<bool, EvalStop>
+pub(crate) fn is_new(seen: &mut Index, key: Row) -> Result<bool, NoMemory>
     ensures { spec.Notes key seen.old seen.new result }
 {
     let range = key_range(key);

@@ -1,4 +1,4 @@
-use Rattle.std.proofs.Common.{ℕ, length}
+use Rattle.std.proofs.Common.{length}
 use Rattle.executor.specs.Scans.{index_left}
 use Rattle.executor.proofs.slots.index_slots.Given as goal
 
