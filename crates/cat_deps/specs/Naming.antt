@@ -1,8 +1,16 @@
 -- Which columns of tables a view's query names.
-use Rattle.std.specs.Prelude.{◌==◌, Bool, true, false, ◌&&◌, ◌||◌, Option, None, Some, List, map}
+use Rattle.std.specs.Prelude.{◌==◌, Bool, false, ◌&&◌, ◌||◌, Option, None, Some, List, map}
 use Rattle.std.specs.List.{slice_get}
 use Rattle.q_base.specs.declared.ids.ColId.{ColId}
 use Rattle.q_base.specs.declared.ids.ObjId.{ObjId}
+use Rattle.std.specs.declared.rc.Rc.{Rc}
+use Rattle.std.specs.declared.alloc.Global.{Global}
+use Rattle.cat_names.specs.declared.rows.NameRow.{NameRow}
+use Rattle.cat_core.specs.declared.entry.Def.{Def}
+use Rattle.cat_core.specs.declared.entry.Def.TheVariants as def
+use Rattle.cat_core.specs.declared.entry.Entry.{Entry}
+use Rattle.cat_core.specs.declared.slots.Slot.{Slot}
+use Rattle.cat_core.specs.Objects.{entry_in}
 use Rattle.query_tree.specs.declared.query.Aggregate.{Aggregate}
 use Rattle.query_tree.specs.declared.query.Aggregate.TheVariants as aggregate
 use Rattle.query_tree.specs.declared.query.Item.{Item}
@@ -77,3 +85,20 @@ page_names named query = some_names named query.items query.limit || some_names 
 -- a query names the column in one of its clauses
 abbrev pub query_names : Named → Query → Bool
 query_names named query = lists_name named query || page_names named query
+
+-- an object is a view whose query names the column
+abbrev pub def_names : Named → Def → Bool
+def_names named (def.View view) = query_names named view.query.value
+def_names named (def.Table table) = false
+def_names named (def.Index index) = false
+
+abbrev pub entry_names : Named → Option (Rc Entry Global) → Bool
+entry_names named None = false
+entry_names named (Some entry) = def_names named entry.value.def
+
+abbrev pub is_view_naming : Named → List Slot → ObjId → Bool
+is_view_naming named slots id = entry_names named (entry_in slots id)
+
+-- one of the views names the column
+abbrev pub is_column_used : Named → List Slot → List NameRow → Bool
+is_column_used named slots names = any_of (map (λ (row : NameRow). is_view_naming named slots row.id) names)

@@ -1,32 +1,46 @@
 ghost use Rattle.std.specs.Prelude.{◌≡◌};
 ghost use Rattle.cat_deps.specs.Naming as spec;
 
-use cat_core::{Catalog, Def, Entry};
+use cat_core::{Catalog, Def};
+use cat_names::NameRow;
 use q_base::{ColId, ObjId};
 use query_tree::{Aggregate, ColumnPlace, Item, Query, SortKey, Target};
 
 /// Tells whether the query of a view names the column of the table; it takes no memory. `*` names the columns that
 /// the table had when the view was made.
-pub fn column_used(catalog: &Catalog, table: ObjId, column: ColId) -> bool {
-    for row in catalog.names() {
-        if is_view_naming(catalog, row.id, table, column) {
+pub fn column_used(catalog: &Catalog, table: ObjId, column: ColId) -> bool
+    ensures { result ≡ spec.is_column_used (record { table = table; column = column }) catalog.now.slots catalog.now.names }
+{
+    any_view_naming(catalog, catalog.names(), Named { table, column })
+}
+
+fn any_view_naming(catalog: &Catalog, names: &[NameRow], named: Named) -> bool
+    ensures { result ≡ spec.is_column_used named catalog.now.slots names.now }
+{
+    for row in names {
+        if is_view_naming(catalog, row.id, named) {
             return true;
         }
     }
     false
 }
 
-fn is_view_naming(catalog: &Catalog, id: ObjId, table: ObjId, column: ColId) -> bool {
+fn is_view_naming(catalog: &Catalog, id: ObjId, named: Named) -> bool
+    ensures { result ≡ spec.is_view_naming named catalog.now.slots id }
+{
     match catalog.entry(id) {
-        Some(entry) => names_it(entry, table, column),
+        Some(entry) => names_it(&entry.def, named),
         None => false,
     }
 }
 
-fn names_it(entry: &Entry, table: ObjId, column: ColId) -> bool {
-    match &entry.def {
-        Def::View(view) => query_names(&view.query, Named { table, column }),
-        Def::Table(_) | Def::Index(_) => false,
+fn names_it(def: &Def, named: Named) -> bool
+    ensures { result ≡ spec.def_names named def.now }
+{
+    match def {
+        Def::View(view) => query_names(&view.query, named),
+        Def::Table(_) => false,
+        Def::Index(_) => false,
     }
 }
 

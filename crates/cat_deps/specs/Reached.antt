@@ -1,0 +1,42 @@
+-- What objects reach through views.
+use Rattle.std.specs.Prelude.{◌≡◌, ◌⊎◌, ◌↔◌, List, [], ◌++◌, Contains, Option, Some, None}
+use Rattle.std.specs.declared.rc.Rc.{Rc}
+use Rattle.std.specs.declared.alloc.Global.{Global}
+use Rattle.q_base.specs.declared.ids.ObjId.{ObjId}
+use Rattle.query_tree.specs.Items.{ids_of}
+use Rattle.cat_core.specs.declared.entry.Def.{Def}
+use Rattle.cat_core.specs.declared.entry.Def.TheVariants.{Table, View, Index}
+use Rattle.cat_core.specs.declared.entry.Entry.{Entry}
+use Rattle.cat_core.specs.declared.slots.Slot.{Slot}
+use Rattle.cat_core.specs.Objects.{entry_in}
+use Rattle.cat_deps.specs.declared.reached.Reached.{Reached}
+
+-- what an object names: a view the items of its query
+abbrev pub def_names : Def → List ObjId
+def_names (View view) = ids_of view.query.value
+def_names (Table table) = []
+def_names (Index index) = []
+
+abbrev pub entry_names : Option (Rc Entry Global) → List ObjId
+entry_names None = []
+entry_names (Some entry) = def_names entry.value.def
+
+-- what the object of an id names
+abbrev pub names_of : List Slot → ObjId → List ObjId
+names_of slots id = entry_names (entry_in slots id)
+
+-- ids reach themselves, and what a view that they reach names
+pub data Reaches (slots : List Slot) (ids : List ObjId) : ObjId → Type 0 where
+  given : {id : ObjId} → Contains ids id → Reaches slots ids id
+  through : {view id : ObjId} → Reaches slots ids view → Contains (names_of slots view) id → Reaches slots ids id
+
+-- the list of what was found has the ids in the order of finding, and no others
+abbrev pub IsListed : Reached → Type 0
+IsListed reached = (id : ObjId) → Contains reached.found id ↔ Contains reached.order.items id
+
+-- these ids were added behind those that were there
+pub record Adds (ids : List ObjId) (old new : Reached) : Type 0 where
+  pub listed : IsListed new
+  pub found : (id : ObjId) → Contains new.found id ↔ (Contains old.found id ⊎ Contains ids id)
+  pub more : List ObjId
+  pub order : new.order.items ≡ old.order.items ++ more
