@@ -1,4 +1,4 @@
-ghost use Rattle.std.specs.Prelude.{◌≡◌, ◌↔◌, ◌≤◌, ◌^◌, ◌-◌, IsTrue, IfOk, is_some, length, filter, [], if◌then◌else◌};
+ghost use Rattle.std.specs.Prelude.{◌≡◌, ◌↔◌, ◌≤◌, ◌^◌, ◌-◌, IsTrue, IfOk, is_some, length, filter, nat_eq, [], if◌then◌else◌};
 ghost use Rattle.cat_core.specs.Stamps.{stamp_in};
 ghost use Rattle.cat_undo.specs.Marked as marked;
 ghost use Rattle.cat_undo.specs.Store as spec;
@@ -163,14 +163,18 @@ impl CatStore {
         }
     }
 
-    /// Gives up what takes changes back, as COMMIT does.
+    /// Gives up what takes changes back, as COMMIT does; where nothing can be taken back, all stays as it is.
     pub fn forget(&mut self)
-        ensures slots { self.new.held.catalog.slots ≡ filter (λ slot. is_some slot.entry) self.old.held.catalog.slots }
+        ensures slots { self.new.held.catalog.slots ≡ (if nat_eq (length self.old.log.items) 0 then self.old.held.catalog.slots else filter (λ slot. is_some slot.entry) self.old.held.catalog.slots) }
+        ensures rows { self.new.held.stamps.rows ≡ (if nat_eq (length self.old.log.items) 0 then self.old.held.stamps.rows else filter (λ row. is_some row.stamp) self.old.held.stamps.rows) }
         ensures next_id { self.new.held.catalog.next_id ≡ self.old.held.catalog.next_id }
-        ensures stamps { self.new.held.stamps ≡ record self.old.held.stamps { rows = filter (λ row. is_some row.stamp) self.old.held.stamps.rows } }
+        ensures all { self.new.held.stamps.all ≡ self.old.held.stamps.all }
         ensures last_stamp { self.new.held.last_stamp ≡ self.old.held.last_stamp }
         ensures log { self.new.log.items ≡ [] }
     {
+        if self.log.is_empty() {
+            return;
+        }
         self.held.catalog.forget();
         self.held.stamps.forget();
         self.log.truncate(0);
