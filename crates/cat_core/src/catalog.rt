@@ -1,6 +1,7 @@
 ghost use Rattle.std.specs.Prelude.{◌≡◌, filter, is_some, IfOk, OnErr, IfSome, IfNone, None};
 ghost use Rattle.std.specs.Option.{option_copied};
 ghost use Rattle.cat_core.specs.Steps as spec;
+ghost use Rattle.cat_core.specs.Finding as of;
 
 use crate::shelf::Shelf;
 use crate::slots::Slots;
@@ -95,7 +96,9 @@ impl Catalog {
     }
 
     /// The tables, in order of making.
-    pub fn tables(&self, alloc: Global) -> Result<EntryList, NoMemory> {
+    pub fn tables(&self, alloc: Global) -> Result<EntryList, NoMemory>
+        ensures { IfOk result (λ found. of.entries found ≡ of.tables self.now.slots) }
+    {
         let mut found = ListOf::new(alloc);
         for slot in self.objects.as_slice() {
             match &slot.entry {
@@ -107,7 +110,9 @@ impl Catalog {
     }
 
     /// The views, in order of making.
-    pub fn views(&self, alloc: Global) -> Result<EntryList, NoMemory> {
+    pub fn views(&self, alloc: Global) -> Result<EntryList, NoMemory>
+        ensures { IfOk result (λ found. of.entries found ≡ of.views self.now.slots) }
+    {
         let mut found = ListOf::new(alloc);
         for slot in self.objects.as_slice() {
             match &slot.entry {
@@ -119,7 +124,9 @@ impl Catalog {
     }
 
     /// The indexes of a table, in order of making.
-    pub fn indexes_of(&self, alloc: Global, table: ObjId) -> Result<EntryList, NoMemory> {
+    pub fn indexes_of(&self, alloc: Global, table: ObjId) -> Result<EntryList, NoMemory>
+        ensures { IfOk result (λ found. of.entries found ≡ of.indexes_of table self.now.slots) }
+    {
         let mut found = ListOf::new(alloc);
         for slot in self.objects.as_slice() {
             match &slot.entry {
@@ -281,15 +288,21 @@ fn name_row(alloc: Global, entry: &Entry) -> Result<NameRow, NoMemory> {
     })
 }
 
-fn is_table(entry: &Entry) -> bool {
+fn is_table(entry: &Entry) -> bool
+    ensures { result ≡ of.is_table entry.now }
+{
     matches!(entry.def, Def::Table(_))
 }
 
-fn is_view(entry: &Entry) -> bool {
+fn is_view(entry: &Entry) -> bool
+    ensures { result ≡ of.is_view entry.now }
+{
     matches!(entry.def, Def::View(_))
 }
 
-fn is_index_of(entry: &Entry, table: ObjId) -> bool {
+fn is_index_of(entry: &Entry, table: ObjId) -> bool
+    ensures { result ≡ of.is_index_of table entry.now }
+{
     match &entry.def {
         Def::Index(index) => index.table.0 == table.0,
         _ => false,

@@ -1,4 +1,8 @@
 ghost use Rattle.std.specs.Prelude.{◌≡◌};
+ghost use Rattle.std.specs.Option.{option_copied};
+ghost use Rattle.sql_tree.specs.declared.catalog.ObjectKind.TheVariants as kinds;
+ghost use Rattle.q_value.specs.Answers.{Answers};
+ghost use Rattle.cat_core.specs.Finding as spec;
 
 use crate::{Catalog, Column, Def, Entry};
 use cat_names::{found, refusal_of};
@@ -12,7 +16,9 @@ pub fn find_table(
     catalog: &Catalog,
     path: &SchemaList,
     name: &QName,
-) -> Result<ObjId, Stop> {
+) -> Result<ObjId, Stop>
+    ensures { Answers (spec.find_object catalog.now path.now name.now kinds.Table) result }
+{
     find_object(alloc, catalog, path, name, ObjectKind::Table)
 }
 
@@ -22,7 +28,9 @@ pub fn find_view(
     catalog: &Catalog,
     path: &SchemaList,
     name: &QName,
-) -> Result<ObjId, Stop> {
+) -> Result<ObjId, Stop>
+    ensures { Answers (spec.find_object catalog.now path.now name.now kinds.View) result }
+{
     find_object(alloc, catalog, path, name, ObjectKind::View)
 }
 
@@ -32,7 +40,9 @@ pub fn find_index(
     catalog: &Catalog,
     path: &SchemaList,
     name: &QName,
-) -> Result<ObjId, Stop> {
+) -> Result<ObjId, Stop>
+    ensures { Answers (spec.find_object catalog.now path.now name.now kinds.Index) result }
+{
     find_object(alloc, catalog, path, name, ObjectKind::Index)
 }
 
@@ -44,7 +54,9 @@ pub fn find_object(
     path: &SchemaList,
     name: &QName,
     kind: ObjectKind,
-) -> Result<ObjId, Stop> {
+) -> Result<ObjId, Stop>
+    ensures { Answers (spec.find_object catalog.now path.now name.now kind) result }
+{
     match found(name, path, catalog.schemas(), catalog.names()) {
         Some(id) if is_of_kind(catalog, id, kind) => Ok(id),
         Some(_) => Err(refusal_of(alloc, other_kind(kind), name)),
@@ -52,14 +64,18 @@ pub fn find_object(
     }
 }
 
-fn absent(kind: ObjectKind) -> Code {
+fn absent(kind: ObjectKind) -> Code
+    ensures { result ≡ spec.absent kind }
+{
     match kind {
         ObjectKind::Table | ObjectKind::View => Code::UnknownRelation,
         ObjectKind::Index => Code::UnknownIndex,
     }
 }
 
-fn other_kind(kind: ObjectKind) -> Code {
+fn other_kind(kind: ObjectKind) -> Code
+    ensures { result ≡ spec.other_kind kind }
+{
     match kind {
         ObjectKind::Table => Code::NotATable,
         ObjectKind::View => Code::NotAView,
@@ -67,7 +83,9 @@ fn other_kind(kind: ObjectKind) -> Code {
     }
 }
 
-fn is_of_kind(catalog: &Catalog, id: ObjId, kind: ObjectKind) -> bool {
+fn is_of_kind(catalog: &Catalog, id: ObjId, kind: ObjectKind) -> bool
+    ensures { result ≡ spec.is_of_kind catalog.now.slots id kind }
+{
     match catalog.entry(id) {
         Some(entry) => entry.def.kind() == kind,
         None => false,
@@ -75,7 +93,9 @@ fn is_of_kind(catalog: &Catalog, id: ObjId, kind: ObjectKind) -> bool {
 }
 
 /// The column of a name.
-pub fn column_named<'a>(columns: &'a [Column], name: &str) -> Option<&'a Column> {
+pub fn column_named<'a>(columns: &'a [Column], name: &str) -> Option<&'a Column>
+    ensures { option_copied result ≡ spec.column_named columns.now name.now }
+{
     for column in columns {
         if column.name.as_str() == name {
             return Some(column);
@@ -86,7 +106,9 @@ pub fn column_named<'a>(columns: &'a [Column], name: &str) -> Option<&'a Column>
 
 impl Def {
     /// Which kind of object it is.
-    pub fn kind(&self) -> ObjectKind {
+    pub fn kind(&self) -> ObjectKind
+        ensures { result ≡ spec.kind_of self.now }
+    {
         match self {
             Def::Table(_) => ObjectKind::Table,
             Def::View(_) => ObjectKind::View,
@@ -97,7 +119,9 @@ impl Def {
 
 impl Entry {
     /// The columns of a table; none of a view or an index.
-    pub fn columns(&self) -> &[Column] {
+    pub fn columns(&self) -> &[Column]
+        ensures { result.now ≡ spec.columns_in self.now.def }
+    {
         match &self.def {
             Def::Table(table) => table.columns.as_slice(),
             Def::View(_) | Def::Index(_) => &[],
@@ -105,7 +129,9 @@ impl Entry {
     }
 
     /// The column of a table that has the name.
-    pub fn column_id(&self, name: &str) -> Option<ColId> {
+    pub fn column_id(&self, name: &str) -> Option<ColId>
+        ensures { result ≡ spec.id_of (spec.column_named (spec.columns_in self.now.def) name.now) }
+    {
         match column_named(self.columns(), name) {
             Some(column) => Some(column.id),
             None => None,
@@ -113,7 +139,9 @@ impl Entry {
     }
 
     /// The object whose use bars changes of this one: an index's table, and else the object itself.
-    pub fn owner(&self) -> ObjId {
+    pub fn owner(&self) -> ObjId
+        ensures { result ≡ spec.owner self.now }
+    {
         match &self.def {
             Def::Index(index) => index.table,
             Def::Table(_) | Def::View(_) => self.id,
