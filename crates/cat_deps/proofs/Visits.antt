@@ -1,11 +1,9 @@
 -- What was reached so far, and what is reached in the end.
-use Rattle.std.proofs.Common.{◌≡◌, ◌↔◌, ℕ, ◌+◌, ◌<◌, ◌≤◌, Bool, true, false, nat_lt, List, [], ◌∷◌, ◌++◌, length, get_or, Contains, Some, None, Result, Ok, Err, is_ok, IsTrue, IfOk, Equal, ◌⊎◌, inl, inr, ⊎_elim, refl, sym, ap, ◌∙◌, subst, nat_cmp, arith}
-use Rattle.std.specs.List.{slice_get, HoldsAt}
-use Rattle.std.specs.List.Sorted.{IsSearchInRange}
-use Rattle.std.proofs.lemmas.Cmp.{ranked}
+use Rattle.std.proofs.Common.{◌≡◌, ◌↔◌, ℕ, ◌+◌, ◌<◌, ◌≤◌, Bool, true, false, nat_lt, List, [], ◌∷◌, ◌++◌, length, get_or, Contains, Some, None, Result, Ok, Err, IfOk, ◌⊎◌, inl, inr, ⊎_elim, refl, sym, ap, ◌∙◌, subst, arith}
+use Rattle.std.specs.List.{slice_get}
 use Rattle.std.proofs.lemmas.Bool.Decides.{nat_tests}
 use Rattle.std.proofs.lemmas.List.{append-nil, append_assoc}
-use Rattle.std.proofs.lemmas.List.Elements.{Contains-from_at, Contains-append_left, Contains-append_right, Contains-append_cases, Contains-push}
+use Rattle.std.proofs.lemmas.List.Elements.{Contains-append_left, Contains-append_right, Contains-append_cases, Contains-push}
 use Rattle.std.proofs.lemmas.Option.{slice_get_read, slice_get_cases, get_or_from_slice_get, slice_get-get_or}
 use Rattle.std.proofs.Math.ListN.{get_or-append}
 use Rattle.q_base.specs.declared.errors.NoMemory.{NoMemory}
@@ -21,14 +19,6 @@ only x y found = let at : found.0 ≡ 0 = omega (arith, found.1) in sym found.2 
 
 the_one : (x : ObjId) → Contains (x ∷ []) x
 the_one x = (0, omega arith, refl)
-
--- what a search found is in the list
-pub found_there : (id : ObjId) (ids : List ObjId) (r : Result ℕ ℕ) (b : Bool) → b ≡ is_ok r → IsSearchInRange r (length ids) → IfOk r (HoldsAt (λ (other : ObjId). nat_cmp other.0 id.0 ≡ Equal) ids) → IsTrue b → Contains ids id
-found_there id ids (Ok i) b e within at is_so = Contains-from_at ids id (i, within, λ d. same (at d))
-  where
-    same : {other : ObjId} → nat_cmp other.0 id.0 ≡ Equal → other ≡ id
-    same {other} equal = ap (λ n. record { 0 = n }) (ranked other.0 id.0 Equal (sym equal))
-found_there id ids (Err i) b e within at is_so = absurd (cc (sym e ∙ is_so))
 
 -- nothing is added
 pub adds_none : (r : Reached) → IsListed r → Adds [] r r

@@ -1,5 +1,6 @@
 ghost use Rattle.std.specs.Prelude.{◌≡◌, ◌↔◌, [], ◌∷◌, map, slice_get, Contains, IsTrue, IfOk};
 ghost use Rattle.q_base.specs.declared.ids.ObjId.{ObjId as Id};
+ghost use Rattle.q_base.specs.IdLists.{IsAscending};
 ghost use Rattle.query_tree.specs.Items.{relation_of, ids_of};
 ghost use Rattle.cat_deps.specs.Reached as spec;
 
@@ -77,7 +78,8 @@ impl Reached {
 
 /// Tells whether an id is among ids in ascending order.
 pub(crate) fn is_among(ids: &[ObjId], id: ObjId) -> bool
-    ensures { IsTrue result → Contains ids.now id }
+    requires { IsAscending ids.now }
+    ensures { IsTrue result ↔ Contains ids.now id }
 {
     ids.binary_search(&id).is_ok()
 }
