@@ -1,8 +1,12 @@
+ghost use Rattle.std.specs.Prelude.{[]};
+ghost use Rattle.q_value.specs.Answers.{Answers};
+ghost use Rattle.dml.specs.Rows as spec;
+
 use crate::changed::{Changed, count_of, returned_of};
 use crate::entries::add_entries;
 use crate::tables::table_of;
 use crate::unique::check_unique;
-use crate::values::{check_row, nulls, put_value, values_of};
+use crate::values::{check_row, nulls, put_given, put_value, values_of};
 use cat_core::{Catalog, TableDef};
 use executor::Stores;
 use plan_tree::Plan;
@@ -66,7 +70,9 @@ fn new_rows(
     insert: &Insert,
     table: &TableDef,
     params: &[Value],
-) -> Result<Rows, Stop> {
+) -> Result<Rows, Stop>
+    ensures { Answers (spec.inserted_rows [] insert.now table.now params.now insert.now.rows) result }
+{
     let mut rows = Rows::new(alloc);
     for targets in insert.rows.as_slice() {
         rows.push(new_row(alloc, insert, table, targets.as_slice(), params)?)?;
@@ -80,7 +86,9 @@ fn new_row(
     table: &TableDef,
     targets: &[Target],
     params: &[Value],
-) -> Result<Row, Stop> {
+) -> Result<Row, Stop>
+    ensures { Answers (spec.inserted_row insert.now table.now params.now targets.now) result }
+{
     let values = values_of(alloc, targets, &[], params)?;
     let mut row = nulls(alloc, table.next_column)?;
     put_defaults(alloc, &mut row, insert.defaults.as_slice(), params)?;
@@ -104,7 +112,9 @@ fn put_defaults(
     row: &mut Vec<Value>,
     defaults: &[Assignment],
     params: &[Value],
-) -> Result<(), Stop> {
+) -> Result<(), Stop>
+    ensures { spec.Leaves (spec.with_defaults row.old.items defaults.now params.now) result row.new.items }
+{
     for given in defaults {
         let value = crate::values::value_of(alloc, &given.value, &[], params)?;
         put_value(alloc, row, given.column, &value)?;
@@ -118,11 +128,11 @@ pub(crate) fn put_values(
     row: &mut Vec<Value>,
     columns: &[AssignedColumn],
     values: &[Value],
-) -> Result<(), Stop> {
-    for (place, column) in columns.iter().enumerate() {
-        if let Some(value) = values.get(place) {
-            put_value(alloc, row, *column, value)?;
-        }
+) -> Result<(), Stop>
+    ensures { spec.Leaves (spec.put_from 0 row.old.items columns.now values.now) result row.new.items }
+{
+    for at in 0..columns.len() {
+        put_given(alloc, row, columns[at], values.get(at))?;
     }
     Ok(())
 }
