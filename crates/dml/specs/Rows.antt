@@ -78,14 +78,17 @@ abbrev pub put_given : Row → AssignedColumn → Option Value → Result Row Sq
 put_given row column None = Ok row
 put_given row column (Some value) = put row column value
 
+unfoldable pub put_at : ℕ → Row → AssignedColumn → Row → Result Row SqlError
+put_at at row column values = put_given row column (slice_get values at)
+
 -- the row with the values from a place on in the columns from there on
 abbrev pub put_from : ℕ → Row → List AssignedColumn → Row → Result Row SqlError
 put_from at row [] values = Ok row
-put_from at row (column ∷ columns) values = go_on (put_given row column (slice_get values at)) (λ new. put_from (suc at) new columns values)
+put_from at row (column ∷ columns) values = go_on (put_at at row column values) (λ new. put_from (suc at) new columns values)
 
 abbrev pub put_assigned_from : ℕ → Row → List Assignment → Row → Result Row SqlError
 put_assigned_from at row [] values = Ok row
-put_assigned_from at row (assignment ∷ assignments) values = go_on (put_given row assignment.column (slice_get values at)) (λ new. put_assigned_from (suc at) new assignments values)
+put_assigned_from at row (assignment ∷ assignments) values = go_on (put_at at row assignment.column values) (λ new. put_assigned_from (suc at) new assignments values)
 
 -- the row with the defaults of columns, one after another
 abbrev pub with_defaults : Row → List Assignment → Row → Result Row SqlError

@@ -1,12 +1,15 @@
-ghost use Rattle.std.specs.Prelude.{[]};
+ghost use Rattle.std.specs.Prelude.{◌≡◌, [], ◌∷◌, ◌++◌, MatchResult};
+ghost use Rattle.q_base.specs.Stops.{StopsBy};
 ghost use Rattle.q_value.specs.Answers.{Answers};
-ghost use Rattle.dml.specs.Rows as spec;
+ghost use Rattle.dml.specs.Rows as making;
+ghost use Rattle.dml.specs.Rows.{table_in};
+ghost use Rattle.dml.specs.Changes as spec;
 
 use crate::changed::{Changed, count_of, returned_of};
 use crate::entries::add_entries;
 use crate::tables::table_of;
 use crate::unique::check_unique;
-use crate::values::{check_row, nulls, put_given, put_value, values_of};
+use crate::values::{check_row, nulls, put_at, put_value, values_of};
 use cat_core::{Catalog, TableDef};
 use executor::Stores;
 use plan_tree::Plan;
@@ -29,7 +32,9 @@ pub fn insert_rows(
     plan: &Plan,
     params: &[Value],
     _snap: Snap,
-) -> Result<Changed, Stop> {
+) -> Result<Changed, Stop>
+    ensures { spec.InsertedBy plan.now.bound.value params.now catalog.now.slots stores.old.heaps result stores.new.heaps }
+{
     match plan.bound.as_ref() {
         Bound::Insert(insert) => inserted(alloc, stores, catalog, insert, params),
         _ => Ok(Changed::nothing(alloc)),
@@ -42,7 +47,9 @@ fn inserted(
     catalog: &Catalog,
     insert: &Insert,
     params: &[Value],
-) -> Result<Changed, Stop> {
+) -> Result<Changed, Stop>
+    ensures { spec.Inserted insert.now params.now (table_in catalog.now.slots insert.now.table.id) stores.old.heaps result stores.new.heaps }
+{
     let id = insert.table.id;
     let Some(table) = table_of(catalog, id) else {
         return Ok(Changed::nothing(alloc));
@@ -71,7 +78,7 @@ fn new_rows(
     table: &TableDef,
     params: &[Value],
 ) -> Result<Rows, Stop>
-    ensures { Answers (spec.inserted_rows [] insert.now table.now params.now insert.now.rows) result }
+    ensures { Answers (making.inserted_rows [] insert.now table.now params.now insert.now.rows) result }
 {
     let mut rows = Rows::new(alloc);
     for targets in insert.rows.as_slice() {
@@ -87,7 +94,7 @@ fn new_row(
     targets: &[Target],
     params: &[Value],
 ) -> Result<Row, Stop>
-    ensures { Answers (spec.inserted_row insert.now table.now params.now targets.now) result }
+    ensures { Answers (making.inserted_row insert.now table.now params.now targets.now) result }
 {
     let values = values_of(alloc, targets, &[], params)?;
     let mut row = nulls(alloc, table.next_column)?;
@@ -113,7 +120,7 @@ fn put_defaults(
     defaults: &[Assignment],
     params: &[Value],
 ) -> Result<(), Stop>
-    ensures { spec.Leaves (spec.with_defaults row.old.items defaults.now params.now) result row.new.items }
+    ensures { making.Leaves (making.with_defaults row.old.items defaults.now params.now) result row.new.items }
 {
     for given in defaults {
         let value = crate::values::value_of(alloc, &given.value, &[], params)?;
@@ -129,22 +136,25 @@ pub(crate) fn put_values(
     columns: &[AssignedColumn],
     values: &[Value],
 ) -> Result<(), Stop>
-    ensures { spec.Leaves (spec.put_from 0 row.old.items columns.now values.now) result row.new.items }
+    ensures { making.Leaves (making.put_from 0 row.old.items columns.now values.now) result row.new.items }
 {
     for at in 0..columns.len() {
-        put_given(alloc, row, columns[at], values.get(at))?;
+        put_at(alloc, row, at, columns[at], values)?;
     }
     Ok(())
 }
 
 /// Stores rows behind those of the table, with their entries, and answers their slots: 54000 where the limit of
 /// live rows is passed.
+#[tactic(auto, using(crate::proofs::Steps::unchanged, crate::proofs::Steps::both_change, crate::proofs::Stored::numbered_more))]
 fn store_rows(
     alloc: Global,
     stores: &mut Stores,
     table: ObjId,
     rows: Rows,
-) -> Result<Vec<SlotId>, Stop> {
+) -> Result<Vec<SlotId>, Stop>
+    ensures { MatchResult result (λ slots. spec.Appends table slots.items rows stores.old.heaps stores.new.heaps) (StopsBy (λ e. (e ≡ spec.full) × spec.ChangesTable table stores.old.heaps stores.new.heaps)) }
+{
     let mut slots = Vec::new(alloc);
     for row in rows.into_vec() {
         let slot = store_row(alloc, stores, table, row)?;
@@ -153,7 +163,9 @@ fn store_rows(
     Ok(slots)
 }
 
-fn store_row(alloc: Global, stores: &mut Stores, table: ObjId, row: Row) -> Result<SlotId, Stop> {
+fn store_row(alloc: Global, stores: &mut Stores, table: ObjId, row: Row) -> Result<SlotId, Stop>
+    ensures { MatchResult result (λ slot. spec.Shows table (spec.now stores.old.heaps table ++ (slot.0, row) ∷ []) stores.old.heaps stores.new.heaps) (StopsBy (λ e. (e ≡ spec.full) × (stores.new.heaps ≡ stores.old.heaps))) }
+{
     if !stores.heaps.has_room(table) {
         return Err(refusal(alloc, Code::LimitExceeded));
     }

@@ -1,13 +1,15 @@
-ghost use Rattle.std.specs.Prelude.{◌≡◌, [], IfOk};
+ghost use Rattle.std.specs.Prelude.{◌≡◌, [], IfOk, OnOk};
 ghost use Rattle.std.specs.Option.{option_copied};
 ghost use Rattle.q_value.specs.Answers.{Answers};
-ghost use Rattle.dml.specs.Rows as spec;
+ghost use Rattle.dml.specs.Rows as making;
+ghost use Rattle.dml.specs.Rows.{table_in};
+ghost use Rattle.dml.specs.Changes as spec;
 
 use crate::changed::{Changed, copy_of, count_of, returned_of};
 use crate::entries::supersede;
 use crate::tables::table_of;
 use crate::unique::check_unique;
-use crate::values::{assigned_values, check_row, put_given};
+use crate::values::{assigned_values, check_row, put_at};
 use cat_core::{Catalog, TableDef};
 use executor::{Stores, run_slots};
 use plan_tree::Plan;
@@ -48,7 +50,9 @@ fn updated(
     update: &Update,
     slots: &[SlotId],
     params: &[Value],
-) -> Result<Changed, Stop> {
+) -> Result<Changed, Stop>
+    ensures { spec.Updated update.now params.now (table_in catalog.now.slots update.now.table.id) slots.now stores.old.heaps result stores.new.heaps }
+{
     let id = update.table.id;
     let Some(table) = table_of(catalog, id) else {
         return Ok(Changed::nothing(alloc));
@@ -72,7 +76,7 @@ fn new_rows(
     slots: &[SlotId],
     params: &[Value],
 ) -> Result<Rows, Stop>
-    ensures { Answers (spec.updated_rows [] update.now table.now params.now heaps.now slots.now) result }
+    ensures { Answers (making.updated_rows [] update.now table.now params.now heaps.now slots.now) result }
 {
     let mut rows = Rows::new(alloc);
     for slot in slots {
@@ -90,7 +94,7 @@ fn row_at(
     old: Option<&Row>,
     params: &[Value],
 ) -> Result<Row, Stop>
-    ensures { Answers (spec.updated_row update.now table.now params.now (spec.row_or_none (option_copied old.entry))) result }
+    ensures { Answers (making.updated_row update.now table.now params.now (making.row_or_none (option_copied old.entry))) result }
 {
     match old {
         Some(row) => new_row(alloc, update, table, row.as_slice(), params),
@@ -105,7 +109,7 @@ fn new_row(
     old: &[Value],
     params: &[Value],
 ) -> Result<Row, Stop>
-    ensures { Answers (spec.updated_row update.now table.now params.now old.now) result }
+    ensures { Answers (making.updated_row update.now table.now params.now old.now) result }
 {
     let assignments = update.assignments.as_slice();
     let values = assigned_values(alloc, assignments, old, params)?;
@@ -126,10 +130,10 @@ fn put_assigned(
     assignments: &[Assignment],
     values: &[Value],
 ) -> Result<(), Stop>
-    ensures { spec.Leaves (spec.put_assigned_from 0 row.old.items assignments.now values.now) result row.new.items }
+    ensures { making.Leaves (making.put_assigned_from 0 row.old.items assignments.now values.now) result row.new.items }
 {
     for at in 0..assignments.len() {
-        put_given(alloc, row, assignments[at].column, values.get(at))?;
+        put_at(alloc, row, at, assignments[at].column, values)?;
     }
     Ok(())
 }
@@ -141,11 +145,17 @@ fn store_rows(
     table: ObjId,
     slots: &[SlotId],
     rows: Rows,
-) -> Result<(), NoMemory> {
-    for (place, row) in rows.into_vec().into_iter().enumerate() {
-        if let Some(slot) = slots.get(place) {
-            supersede(alloc, stores, table, *slot, row)?;
+) -> Result<(), NoMemory>
+    ensures { OnOk result (spec.Shows table (spec.replaced_each rows slots.now (spec.now stores.old.heaps table)) stores.old.heaps stores.new.heaps) }
+{
+    let mut at = 0;
+    for row in rows.into_vec() {
+        if at == slots.len() {
+            drop(row);
+            return Ok(());
         }
+        supersede(alloc, stores, table, slots[at], row)?;
+        at += 1;
     }
     Ok(())
 }

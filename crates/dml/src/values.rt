@@ -1,5 +1,4 @@
 ghost use Rattle.std.specs.Prelude.{◌≡◌, [], ◌∷◌, IfOk, replicate, slice_get};
-ghost use Rattle.std.specs.Option.{option_copied};
 ghost use Rattle.q_value.specs.declared.value.Value.TheVariants.{Null};
 ghost use Rattle.q_value.specs.Answers.{Answers};
 ghost use Rattle.q_value.specs.Conversions.{converted};
@@ -83,16 +82,18 @@ pub(crate) fn put_value(
     Ok(())
 }
 
-/// The same, where there is a value.
-pub(crate) fn put_given(
+/// The same of the value at a place, where there is one.
+#[tactic(auto, unfolding(crate::specs::Rows::put_at))]
+pub(crate) fn put_at(
     alloc: Global,
     row: &mut Vec<Value>,
+    at: usize,
     column: AssignedColumn,
-    value: Option<&Value>,
+    values: &[Value],
 ) -> Result<(), Stop>
-    ensures { spec.Leaves (spec.put_given row.old.items column (option_copied value.entry)) result row.new.items }
+    ensures { spec.Leaves (spec.put_at at row.old.items column values.now) result row.new.items }
 {
-    match value {
+    match values.get(at) {
         Some(value) => put_value(alloc, row, column, value),
         None => Ok(()),
     }
