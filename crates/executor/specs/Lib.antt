@@ -4,6 +4,7 @@ pub mod Groups
 pub mod Hashes
 pub mod Laws
 pub mod Lists
+pub mod Plans
 pub mod Rest
 pub mod Runs
 pub mod Scans
