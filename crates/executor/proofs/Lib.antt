@@ -1,3 +1,4 @@
+mod Ascending
 mod Ends
 mod Firsts
 mod Matched
