@@ -4,6 +4,7 @@ ghost use Rattle.executor.specs.Cuts.{skipped, windowed};
 ghost use Rattle.executor.specs.Lists.{projected};
 ghost use Rattle.executor.specs.Rest.{left_at};
 ghost use Rattle.executor.specs.Plans as plans;
+ghost use Rattle.executor.specs.Starts as starts;
 ghost use Rattle.executor.specs.Runs.{projection, run_rest as rest_at};
 ghost use Rattle.executor.specs.Yields.{Yields, YieldsFirst, Skips};
 
@@ -18,6 +19,7 @@ use q_base::{NoMemory, SlotId, Work};
 use q_scalar::EvalStop;
 use q_value::{Outcome, Row, RowFeed, Value};
 use query_tree::{Copies, Target, TargetList};
+use row_index::laws;
 use row_versions::Snap;
 use std::alloc::Global;
 use std::rc::Rc;
@@ -40,6 +42,14 @@ impl Run {
     /// A run that has looked at no row yet. The plan is of a SELECT; of another statement it gives no rows.
     pub fn start(alloc: Global, plan: Rc<Plan>, params: Row, snap: Snap) -> Result<Run, NoMemory>
         ensures rest { IfOk result (λ run. (stores : Tables) → rest_at run stores ≡ plans.plan_list stores snap params plan.value) }
+        ensures snap { IfOk result (λ run. run.snap ≡ snap) }
+    {
+        laws::orders();
+        Run::begun(alloc, plan, params, snap)
+    }
+
+    fn begun(alloc: Global, plan: Rc<Plan>, params: Row, snap: Snap) -> Result<Run, NoMemory>
+        ensures rest { IfOk result (λ run. (stores : Tables) → rest_at run stores ≡ starts.walk_list stores snap params plan.value) }
         ensures snap { IfOk result (λ run. run.snap ≡ snap) }
     {
         let node = &plan.block.node;
