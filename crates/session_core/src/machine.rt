@@ -2,6 +2,7 @@
 //! module of its family; a refusal leaves everything as it was but for what the method says.
 
 ghost use Rattle.std.specs.Prelude.{◌≡◌, Ok, IfOk, OnOk};
+ghost use Rattle.savepoints.specs.Settings.{committed};
 ghost use Rattle.session_core.specs.State.{Does, empty_state, settled};
 ghost use Rattle.session_core.specs.Machine as spec;
 ghost use Rattle.session_core.specs.Machine.{Stepped};
@@ -320,16 +321,28 @@ impl Machine {
     fn settle(&mut self) -> Result<(), NoMemory>
         ensures { OnOk result (self.new ≡ settled self.old) }
     {
-        if self.block.status() != Block::Idle {
-            return Ok(());
+        match self.block.status() {
+            Block::Idle => self.settle_idle(),
+            Block::Active | Block::Failed => Ok(()),
         }
+    }
+
+    fn settle_idle(&mut self) -> Result<(), NoMemory>
+        ensures { OnOk result (self.new ≡ record self.old { settings = committed self.old.settings }) }
+    {
+        self.settle_catalog();
+        self.settings.commit();
+        self.stores.heaps.forget();
+        self.stores.prune(self.alloc)
+    }
+
+    fn settle_catalog(&mut self)
+        ensures { self.new ≡ self.old }
+    {
         if self.defined.has_changed() {
             drop_indexes(&mut self.stores, self.defined.catalog());
             self.defined.forget();
         }
-        self.settings.commit();
-        self.stores.heaps.forget();
-        self.stores.prune(self.alloc)
     }
 }
 
