@@ -1,3 +1,4 @@
+mod Nowhere
 pub mod Changes
 pub mod Entries
 pub mod Steps

@@ -2,6 +2,7 @@
 use Rattle.std.specs.Prelude.{◌≡◌, ℕ, List, [], ◌∷◌, ◌++◌, Bool, true, false, Result, Ok, Err, codes, ◌&&◌}
 use Rattle.q_base.specs.declared.code.Code.TheVariants.{OnlyInBlock}
 use Rattle.q_base.specs.declared.errors.SqlError.{SqlError}
+use Rattle.q_base.specs.declared.settings.SetValue.{SetValue}
 use Rattle.q_base.specs.declared.settings.SetValue.TheVariants as set_value
 use Rattle.savepoints.specs.Blocks.{is_open}
 use Rattle.savepoints.specs.Settings.{SettingsState, at_mark, set}
@@ -37,12 +38,18 @@ SetsNothing state tree = Leads state (and_then (set tree.name tree.value tree.lo
 abbrev pub Sets : State → SetTree → Case
 Sets state tree = Leads state (and_then (set tree.name tree.value tree.local state.settings) (λ settings. Ok (set_answer tree.local (is_open state.block) state settings)))
 
+abbrev pub ResetsTo : State → List ℕ → SetValue → Case
+ResetsTo state name value = Leads state (and_then (set name value false state.settings) (λ settings. Ok (tag_line tag.Reset 0, record state { settings = settings })))
+
 abbrev pub Resets : State → List ℕ → Case
-Resets state name = Leads state (and_then (set name set_value.Default false state.settings) (λ settings. Ok (tag_line tag.Reset 0, record state { settings = settings })))
+Resets state name = ResetsTo state name set_value.Default
 
 -- the setting's name, its value, and the number of rows
 abbrev pub shown_lines : List ℕ → List ℕ → List ℕ
 shown_lines name value = name ++ codes "\n" ++ value ++ codes "\n" ++ count_line 1
 
+abbrev pub ShowsAfter : State → List ℕ → List ℕ → Case
+ShowsAfter state before name = Prints state (and_then (shown_after before name state.settings.values.current) (λ value. Ok (shown_lines name value)))
+
 abbrev pub Shows : State → List ℕ → Case
-Shows state name = Prints state (and_then (shown_after [] name state.settings.values.current) (λ value. Ok (shown_lines name value)))
+Shows state name = ShowsAfter state [] name

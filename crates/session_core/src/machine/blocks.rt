@@ -87,10 +87,11 @@ impl Machine {
     }
 
     /// SAVEPOINT. 25P01 outside a block, 54000 at 1,024.
-    pub(crate) fn savepoint(&mut self, name: Str, out: &mut Vec<u8>) -> Result<(), Stop>
+    pub(crate) fn savepoint(&mut self, name: &Str, out: &mut Vec<u8>) -> Result<(), Stop>
         ensures { Does Unstated out.old.items out.new.items self.new result }
     {
         let mark = self.mark();
+        let name = name.copy(self.alloc)?;
         self.block.savepoint(name, mark)?;
         Ok(tag_text(self.alloc, Tag::Savepoint, 0, out)?)
     }

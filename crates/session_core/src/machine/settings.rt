@@ -35,6 +35,20 @@ impl Machine {
         }
     }
 
+    fn reset_to(
+        &mut self,
+        name: &str,
+        value: &SetValue,
+        out: &mut Vec<u8>,
+    ) -> Result<(), Stop>
+        ensures { Does (spec.ResetsTo self.old name.now value.now) out.old.items out.new.items self.new result }
+    {
+        match self.settings.set(name, value, false) {
+            Ok(()) => Ok(tag_text(self.alloc, Tag::Reset, 0, out)?),
+            Err(stop) => Err(stop),
+        }
+    }
+
     /// Sets a value and takes it back.
     fn set_nothing(&mut self, tree: &SetTree, out: &mut Vec<u8>) -> Result<(), Stop>
         ensures { Does (spec.SetsNothing self.old tree.now) out.old.items out.new.items self.new result }
@@ -64,10 +78,8 @@ impl Machine {
     pub(crate) fn reset(&mut self, name: &str, out: &mut Vec<u8>) -> Result<(), Stop>
         ensures { Does (spec.Resets self.old name.now) out.old.items out.new.items self.new result }
     {
-        match self.settings.set(name, &SetValue::Default, false) {
-            Ok(()) => Ok(tag_text(self.alloc, Tag::Reset, 0, out)?),
-            Err(stop) => Err(stop),
-        }
+        let default = SetValue::Default;
+        self.reset_to(name, &default, out)
     }
 
     /// SHOW. 42704 for an unknown name.
@@ -75,7 +87,18 @@ impl Machine {
         ensures { Does (spec.Shows self.old name.now) out.old.items out.new.items self.new result }
     {
         let mut value = Vec::new(self.alloc);
-        match self.settings.text(name, &mut value) {
+        self.show_with(name, &mut value, out)
+    }
+
+    fn show_with(
+        &mut self,
+        name: &str,
+        value: &mut Vec<u8>,
+        out: &mut Vec<u8>,
+    ) -> Result<(), Stop>
+        ensures { Does (spec.ShowsAfter self.old value.old.items name.now) out.old.items out.new.items self.new result }
+    {
+        match self.settings.text(name, value) {
             Ok(()) => Ok(one_text(self.alloc, name, value.as_slice(), out)?),
             Err(stop) => Err(stop),
         }
