@@ -1,4 +1,5 @@
 use crate::columns::after;
+use crate::entries::end_row;
 use crate::unique::{has_entry, key_range, whole_key};
 use cat_core::{Def, Entry, IndexDef};
 use executor::{IndexRow, Stores, key_of};
@@ -91,13 +92,6 @@ pub fn clear_table(stores: &mut Stores, table: ObjId) -> Result<(), NoMemory> {
         };
         end_row(&mut stores.heaps, table, slot)?;
         from = after(slot);
-    }
-    Ok(())
-}
-
-fn end_row(heaps: &mut Heaps, table: ObjId, slot: SlotId) -> Result<(), NoMemory> {
-    if heaps.is_live(table, slot) {
-        heaps.end(table, slot)?;
     }
     Ok(())
 }

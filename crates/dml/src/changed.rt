@@ -1,6 +1,10 @@
-use crate::values::refused;
+ghost use Rattle.std.specs.Prelude.{◌≡◌, [], IfOk, length};
+ghost use Rattle.std.specs.Option.{option_copied};
+ghost use Rattle.q_value.specs.Answers.{Answers};
+ghost use Rattle.dml.specs.Rows as spec;
+
+use crate::values::values_of;
 use q_base::{NoMemory, ObjId, SlotId, Stop};
-use q_scalar::eval_target;
 use q_value::{Row, Rows, Value};
 use query_tree::{Target, TargetList};
 use row_versions::Heaps;
@@ -16,7 +20,9 @@ pub struct Changed {
 
 impl Changed {
     /// No row.
-    pub(crate) fn nothing(alloc: Global) -> Changed {
+    pub(crate) fn nothing(alloc: Global) -> Changed
+        ensures { result ≡ spec.nothing }
+    {
         Changed {
             count: 0,
             returned: Rows::new(alloc),
@@ -32,44 +38,62 @@ pub(crate) fn returned_of(
     slots: &[SlotId],
     targets: &TargetList,
     params: &[Value],
-) -> Result<Rows, Stop> {
-    let mut rows = Rows::new(alloc);
+) -> Result<Rows, Stop>
+    ensures { Answers (spec.returned heaps.now table slots.now targets.now params.now) result }
+{
     if targets.as_slice().is_empty() {
-        return Ok(rows);
+        return Ok(Rows::new(alloc));
     }
+    rows_of(alloc, heaps, table, slots, targets.as_slice(), params)
+}
+
+fn rows_of(
+    alloc: Global,
+    heaps: &Heaps,
+    table: ObjId,
+    slots: &[SlotId],
+    targets: &[Target],
+    params: &[Value],
+) -> Result<Rows, Stop>
+    ensures { Answers (spec.returned_from [] heaps.now table slots.now targets.now params.now) result }
+{
+    let mut rows = Rows::new(alloc);
     for slot in slots {
-        if let Some(row) = heaps.newest_row(table, *slot) {
-            let row = projected(alloc, targets.as_slice(), row.as_slice(), params)?;
-            rows.push(row)?;
-        }
+        let row = heaps.newest_row(table, *slot);
+        add_values(alloc, &mut rows, row, targets, params)?;
     }
     Ok(rows)
 }
 
-/// The values of targets over a row.
-fn projected(
+/// Appends the values of targets over a row, where there is one.
+fn add_values(
     alloc: Global,
+    rows: &mut Rows,
+    row: Option<&Row>,
     targets: &[Target],
-    row: &[Value],
     params: &[Value],
-) -> Result<Row, Stop> {
-    let mut values = Row::new(alloc);
-    for target in targets {
-        match eval_target(alloc, target, row, params) {
-            Ok(value) => values.push(value)?,
-            Err(stop) => return Err(refused(alloc, stop)),
-        }
-    }
-    Ok(values)
+) -> Result<(), Stop>
+    ensures { spec.Leaves (spec.with_values rows.old (option_copied row.entry) targets.now params.now) result rows.new }
+{
+    let Some(row) = row else {
+        return Ok(());
+    };
+    let values = values_of(alloc, targets, row.as_slice(), params)?;
+    rows.push(values)?;
+    Ok(())
 }
 
 /// How many slots there are.
-pub(crate) fn count_of(slots: &[SlotId]) -> u64 {
+pub(crate) fn count_of(slots: &[SlotId]) -> u64
+    ensures { result ≡ length slots.now }
+{
     slots.len() as u64
 }
 
 /// A second owner of the same row.
-pub(crate) fn copy_of(alloc: Global, row: &[Value]) -> Result<Row, NoMemory> {
+pub(crate) fn copy_of(alloc: Global, row: &[Value]) -> Result<Row, NoMemory>
+    ensures { IfOk result (λ copy. copy ≡ row.now) }
+{
     let mut copy = Vec::with_capacity(alloc, row.len())?;
     for value in row {
         copy.push(value.copy(alloc)?)?;

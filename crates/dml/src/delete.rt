@@ -1,4 +1,8 @@
+ghost use Rattle.std.specs.Prelude.{◌≡◌, OnOk, IfOk, length};
+ghost use Rattle.dml.specs.Changes as spec;
+
 use crate::changed::{Changed, count_of, returned_of};
+use crate::entries::end_row;
 use cat_core::Catalog;
 use executor::{Stores, run_slots};
 use plan_tree::Plan;
@@ -33,7 +37,9 @@ fn deleted(
     delete: &Delete,
     slots: &[SlotId],
     params: &[Value],
-) -> Result<Changed, Stop> {
+) -> Result<Changed, Stop>
+    ensures { spec.Deleted delete.now params.now slots.now heaps.old result heaps.new }
+{
     let id = delete.table.id;
     let returned = returned_of(alloc, heaps, id, slots, &delete.returning, params)?;
     end_rows(heaps, id, slots)?;
@@ -44,11 +50,12 @@ fn deleted(
 }
 
 /// Deletes the rows of slots.
-fn end_rows(heaps: &mut Heaps, table: ObjId, slots: &[SlotId]) -> Result<(), NoMemory> {
+#[tactic(auto, using(crate::proofs::Steps::unchanged))]
+fn end_rows(heaps: &mut Heaps, table: ObjId, slots: &[SlotId]) -> Result<(), NoMemory>
+    ensures { OnOk result (spec.Shows table (spec.without_all slots.now (spec.now heaps.old table)) heaps.old heaps.new) }
+{
     for slot in slots {
-        if heaps.is_live(table, *slot) {
-            heaps.end(table, *slot)?;
-        }
+        end_row(heaps, table, *slot)?;
     }
     Ok(())
 }

@@ -1,8 +1,15 @@
+ghost use Rattle.std.specs.Prelude.{◌≡◌, [], ◌∷◌, ◌++◌, MatchResult};
+ghost use Rattle.q_base.specs.Stops.{StopsBy};
+ghost use Rattle.q_value.specs.Answers.{Answers};
+ghost use Rattle.dml.specs.Rows as making;
+ghost use Rattle.dml.specs.Rows.{table_in};
+ghost use Rattle.dml.specs.Changes as spec;
+
 use crate::changed::{Changed, count_of, returned_of};
 use crate::entries::add_entries;
 use crate::tables::table_of;
 use crate::unique::check_unique;
-use crate::values::{check_row, nulls, put_value, values_of};
+use crate::values::{check_row, nulls, put_at, put_value, values_of};
 use cat_core::{Catalog, TableDef};
 use executor::Stores;
 use plan_tree::Plan;
@@ -25,7 +32,9 @@ pub fn insert_rows(
     plan: &Plan,
     params: &[Value],
     _snap: Snap,
-) -> Result<Changed, Stop> {
+) -> Result<Changed, Stop>
+    ensures { spec.InsertedBy plan.now.bound.value params.now catalog.now.slots stores.old.heaps result stores.new.heaps }
+{
     match plan.bound.as_ref() {
         Bound::Insert(insert) => inserted(alloc, stores, catalog, insert, params),
         _ => Ok(Changed::nothing(alloc)),
@@ -38,7 +47,9 @@ fn inserted(
     catalog: &Catalog,
     insert: &Insert,
     params: &[Value],
-) -> Result<Changed, Stop> {
+) -> Result<Changed, Stop>
+    ensures { spec.Inserted insert.now params.now (table_in catalog.now.slots insert.now.table.id) stores.old.heaps result stores.new.heaps }
+{
     let id = insert.table.id;
     let Some(table) = table_of(catalog, id) else {
         return Ok(Changed::nothing(alloc));
@@ -66,7 +77,9 @@ fn new_rows(
     insert: &Insert,
     table: &TableDef,
     params: &[Value],
-) -> Result<Rows, Stop> {
+) -> Result<Rows, Stop>
+    ensures { Answers (making.inserted_rows [] insert.now table.now params.now insert.now.rows) result }
+{
     let mut rows = Rows::new(alloc);
     for targets in insert.rows.as_slice() {
         rows.push(new_row(alloc, insert, table, targets.as_slice(), params)?)?;
@@ -80,7 +93,9 @@ fn new_row(
     table: &TableDef,
     targets: &[Target],
     params: &[Value],
-) -> Result<Row, Stop> {
+) -> Result<Row, Stop>
+    ensures { Answers (making.inserted_row insert.now table.now params.now targets.now) result }
+{
     let values = values_of(alloc, targets, &[], params)?;
     let mut row = nulls(alloc, table.next_column)?;
     put_defaults(alloc, &mut row, insert.defaults.as_slice(), params)?;
@@ -104,7 +119,9 @@ fn put_defaults(
     row: &mut Vec<Value>,
     defaults: &[Assignment],
     params: &[Value],
-) -> Result<(), Stop> {
+) -> Result<(), Stop>
+    ensures { making.Leaves (making.with_defaults row.old.items defaults.now params.now) result row.new.items }
+{
     for given in defaults {
         let value = crate::values::value_of(alloc, &given.value, &[], params)?;
         put_value(alloc, row, given.column, &value)?;
@@ -118,23 +135,26 @@ pub(crate) fn put_values(
     row: &mut Vec<Value>,
     columns: &[AssignedColumn],
     values: &[Value],
-) -> Result<(), Stop> {
-    for (place, column) in columns.iter().enumerate() {
-        if let Some(value) = values.get(place) {
-            put_value(alloc, row, *column, value)?;
-        }
+) -> Result<(), Stop>
+    ensures { making.Leaves (making.put_from 0 row.old.items columns.now values.now) result row.new.items }
+{
+    for at in 0..columns.len() {
+        put_at(alloc, row, at, columns[at], values)?;
     }
     Ok(())
 }
 
 /// Stores rows behind those of the table, with their entries, and answers their slots: 54000 where the limit of
 /// live rows is passed.
+#[tactic(auto, using(crate::proofs::Steps::unchanged, crate::proofs::Steps::both_change, crate::proofs::Stored::numbered_more))]
 fn store_rows(
     alloc: Global,
     stores: &mut Stores,
     table: ObjId,
     rows: Rows,
-) -> Result<Vec<SlotId>, Stop> {
+) -> Result<Vec<SlotId>, Stop>
+    ensures { MatchResult result (λ slots. spec.Appends table slots.items rows stores.old.heaps stores.new.heaps) (StopsBy (λ e. (e ≡ spec.full) × spec.ChangesTable table stores.old.heaps stores.new.heaps)) }
+{
     let mut slots = Vec::new(alloc);
     for row in rows.into_vec() {
         let slot = store_row(alloc, stores, table, row)?;
@@ -143,7 +163,9 @@ fn store_rows(
     Ok(slots)
 }
 
-fn store_row(alloc: Global, stores: &mut Stores, table: ObjId, row: Row) -> Result<SlotId, Stop> {
+fn store_row(alloc: Global, stores: &mut Stores, table: ObjId, row: Row) -> Result<SlotId, Stop>
+    ensures { MatchResult result (λ slot. spec.Shows table (spec.now stores.old.heaps table ++ (slot.0, row) ∷ []) stores.old.heaps stores.new.heaps) (StopsBy (λ e. (e ≡ spec.full) × (stores.new.heaps ≡ stores.old.heaps))) }
+{
     if !stores.heaps.has_room(table) {
         return Err(refusal(alloc, Code::LimitExceeded));
     }

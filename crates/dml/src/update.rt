@@ -1,8 +1,15 @@
+ghost use Rattle.std.specs.Prelude.{◌≡◌, [], IfOk, OnOk};
+ghost use Rattle.std.specs.Option.{option_copied};
+ghost use Rattle.q_value.specs.Answers.{Answers};
+ghost use Rattle.dml.specs.Rows as making;
+ghost use Rattle.dml.specs.Rows.{table_in};
+ghost use Rattle.dml.specs.Changes as spec;
+
 use crate::changed::{Changed, copy_of, count_of, returned_of};
 use crate::entries::supersede;
 use crate::tables::table_of;
 use crate::unique::check_unique;
-use crate::values::{assigned_values, check_row, put_value};
+use crate::values::{assigned_values, check_row, put_at};
 use cat_core::{Catalog, TableDef};
 use executor::{Stores, run_slots};
 use plan_tree::Plan;
@@ -43,7 +50,9 @@ fn updated(
     update: &Update,
     slots: &[SlotId],
     params: &[Value],
-) -> Result<Changed, Stop> {
+) -> Result<Changed, Stop>
+    ensures { spec.Updated update.now params.now (table_in catalog.now.slots update.now.table.id) slots.now stores.old.heaps result stores.new.heaps }
+{
     let id = update.table.id;
     let Some(table) = table_of(catalog, id) else {
         return Ok(Changed::nothing(alloc));
@@ -66,16 +75,31 @@ fn new_rows(
     table: &TableDef,
     slots: &[SlotId],
     params: &[Value],
-) -> Result<Rows, Stop> {
+) -> Result<Rows, Stop>
+    ensures { Answers (making.updated_rows [] update.now table.now params.now heaps.now slots.now) result }
+{
     let mut rows = Rows::new(alloc);
     for slot in slots {
-        let old = match heaps.newest_row(update.table.id, *slot) {
-            Some(row) => row.as_slice(),
-            None => &[],
-        };
-        rows.push(new_row(alloc, update, table, old, params)?)?;
+        let old = heaps.newest_row(update.table.id, *slot);
+        rows.push(row_at(alloc, update, table, old, params)?)?;
     }
     Ok(rows)
+}
+
+/// The new row in the place of an old one, or of none.
+fn row_at(
+    alloc: Global,
+    update: &Update,
+    table: &TableDef,
+    old: Option<&Row>,
+    params: &[Value],
+) -> Result<Row, Stop>
+    ensures { Answers (making.updated_row update.now table.now params.now (making.row_or_none (option_copied old.entry))) result }
+{
+    match old {
+        Some(row) => new_row(alloc, update, table, row.as_slice(), params),
+        None => new_row(alloc, update, table, &[], params),
+    }
 }
 
 fn new_row(
@@ -84,7 +108,9 @@ fn new_row(
     table: &TableDef,
     old: &[Value],
     params: &[Value],
-) -> Result<Row, Stop> {
+) -> Result<Row, Stop>
+    ensures { Answers (making.updated_row update.now table.now params.now old.now) result }
+{
     let assignments = update.assignments.as_slice();
     let values = assigned_values(alloc, assignments, old, params)?;
     let mut row = copy_of(alloc, old)?.into_vec();
@@ -103,11 +129,11 @@ fn put_assigned(
     row: &mut Vec<Value>,
     assignments: &[Assignment],
     values: &[Value],
-) -> Result<(), Stop> {
-    for (place, assignment) in assignments.iter().enumerate() {
-        if let Some(value) = values.get(place) {
-            put_value(alloc, row, assignment.column, value)?;
-        }
+) -> Result<(), Stop>
+    ensures { making.Leaves (making.put_assigned_from 0 row.old.items assignments.now values.now) result row.new.items }
+{
+    for at in 0..assignments.len() {
+        put_at(alloc, row, at, assignments[at].column, values)?;
     }
     Ok(())
 }
@@ -119,11 +145,17 @@ fn store_rows(
     table: ObjId,
     slots: &[SlotId],
     rows: Rows,
-) -> Result<(), NoMemory> {
-    for (place, row) in rows.into_vec().into_iter().enumerate() {
-        if let Some(slot) = slots.get(place) {
-            supersede(alloc, stores, table, *slot, row)?;
+) -> Result<(), NoMemory>
+    ensures { OnOk result (spec.Shows table (spec.replaced_each rows slots.now (spec.now stores.old.heaps table)) stores.old.heaps stores.new.heaps) }
+{
+    let mut at = 0;
+    for row in rows.into_vec() {
+        if at == slots.len() {
+            drop(row);
+            return Ok(());
         }
+        supersede(alloc, stores, table, slots[at], row)?;
+        at += 1;
     }
     Ok(())
 }

@@ -1,6 +1,10 @@
+mod Ascending
+mod Distinct
 mod Ends
 mod Firsts
+mod Keys
 mod Matched
 mod RowOrders
 mod Sorted
 mod Turns
+mod Walks

@@ -1,8 +1,11 @@
-ghost use Rattle.std.specs.Prelude.{◌≡◌, take};
+ghost use Rattle.std.specs.Prelude.{◌≡◌, take, IfOk};
+ghost use Rattle.executor.specs.declared.stores.Stores.{Stores as Tables};
 ghost use Rattle.executor.specs.Cuts.{skipped, windowed};
 ghost use Rattle.executor.specs.Lists.{projected};
 ghost use Rattle.executor.specs.Rest.{left_at};
-ghost use Rattle.executor.specs.Runs.{projection};
+ghost use Rattle.executor.specs.Plans as plans;
+ghost use Rattle.executor.specs.Starts as starts;
+ghost use Rattle.executor.specs.Runs.{projection, run_rest as rest_at};
 ghost use Rattle.executor.specs.Yields.{Yields, YieldsFirst, Skips};
 
 use crate::cut::{Window, window_of};
@@ -16,6 +19,7 @@ use q_base::{NoMemory, SlotId, Work};
 use q_scalar::EvalStop;
 use q_value::{Outcome, Row, RowFeed, Value};
 use query_tree::{Copies, Target, TargetList};
+use row_index::laws;
 use row_versions::Snap;
 use std::alloc::Global;
 use std::rc::Rc;
@@ -36,7 +40,18 @@ pub struct Run {
 
 impl Run {
     /// A run that has looked at no row yet. The plan is of a SELECT; of another statement it gives no rows.
-    pub fn start(alloc: Global, plan: Rc<Plan>, params: Row, snap: Snap) -> Result<Run, NoMemory> {
+    pub fn start(alloc: Global, plan: Rc<Plan>, params: Row, snap: Snap) -> Result<Run, NoMemory>
+        ensures rest { IfOk result (λ run. (stores : Tables) → rest_at run stores ≡ plans.plan_list stores snap params plan.value) }
+        ensures snap { IfOk result (λ run. run.snap ≡ snap) }
+    {
+        laws::orders();
+        Run::begun(alloc, plan, params, snap)
+    }
+
+    fn begun(alloc: Global, plan: Rc<Plan>, params: Row, snap: Snap) -> Result<Run, NoMemory>
+        ensures rest { IfOk result (λ run. (stores : Tables) → rest_at run stores ≡ starts.walk_list stores snap params plan.value) }
+        ensures snap { IfOk result (λ run. run.snap ≡ snap) }
+    {
         let node = &plan.block.node;
         let window = window_at(alloc, node, params.as_slice())?;
         let state = started(alloc, node, params.as_slice())?;
@@ -189,7 +204,9 @@ fn give_limited(
     pull_behind(state, alloc, stores, params, snap, targets, skip)
 }
 
-fn window_at(alloc: Global, node: &Node, params: &[Value]) -> Result<Window, NoMemory> {
+fn window_at(alloc: Global, node: &Node, params: &[Value]) -> Result<Window, NoMemory>
+    ensures { IfOk result (λ window. window ≡ plans.window_at params.now node.now) }
+{
     match node {
         Node::Limit(_, cut, _) => window_of(alloc, cut, params),
         _ => Ok(Window::Rows(0, None)),

@@ -1,12 +1,16 @@
-ghost use Rattle.std.specs.Prelude.{◌≡◌, [], IfOk};
-ghost use Rattle.executor.specs.Scans.{seq_left};
-ghost use Rattle.executor.specs.Slots.{slots_from};
+ghost use Rattle.std.specs.Prelude.{◌≡◌, [], map, IfOk};
+ghost use Rattle.q_base.specs.declared.ids.SlotId.{SlotId as Place};
+ghost use Rattle.plan_tree.specs.declared.node.Node.{out-Node};
+ghost use Rattle.executor.specs.Lists.{kept};
+ghost use Rattle.executor.specs.Plans as plans;
+ghost use Rattle.executor.specs.Scans.{scan_of, along_of, seq_left, index_left};
+ghost use Rattle.executor.specs.Slots.{slots_from, numbers_of, AreAscending};
 
 use crate::index_scan::IndexState;
 use crate::scan::SeqState;
 use crate::start::{index_started, seq_started};
 use crate::stores::Stores;
-use plan_tree::{Node, Plan};
+use plan_tree::{Node, Plan, Scan};
 use q_base::{NoMemory, SlotId, SlotList};
 use q_value::Value;
 use row_versions::Snap;
@@ -20,7 +24,9 @@ pub fn run_slots(
     params: &[Value],
     stores: &Stores,
     snap: Snap,
-) -> Result<SlotList, NoMemory> {
+) -> Result<SlotList, NoMemory>
+    ensures { IfOk result (λ slots. AreAscending (plans.changed_list stores.now snap params.now plan.now) slots) }
+{
     match &plan.block.node {
         Node::Update(_, scan) | Node::Delete(_, scan) => {
             scan_slots(alloc, scan.get(), params, stores, snap)
@@ -35,15 +41,29 @@ fn scan_slots(
     params: &[Value],
     stores: &Stores,
     snap: Snap,
-) -> Result<SlotList, NoMemory> {
+) -> Result<SlotList, NoMemory>
+    ensures { IfOk result (λ slots. AreAscending (plans.scan_list (scan_of stores.now snap) (along_of stores.now snap) params.now (out-Node node.now)) slots) }
+{
     match node {
-        Node::SeqScan(_, scan) => seq_slots(alloc, seq_started(alloc, scan)?, params, stores, snap),
+        Node::SeqScan(_, scan) => first_slots(alloc, scan, params, stores, snap),
         Node::IndexScan(_, scan, along) => {
             let scan = index_started(alloc, scan, along, params)?;
             index_slots(alloc, scan, params, stores, snap)
         }
         _ => Ok(SlotList::new(alloc)),
     }
+}
+
+fn first_slots(
+    alloc: Global,
+    scan: &Scan,
+    params: &[Value],
+    stores: &Stores,
+    snap: Snap,
+) -> Result<SlotList, NoMemory>
+    ensures { IfOk result (λ slots. AreAscending (kept scan.now.conds params.now (scan_of stores.now snap scan.now.table 0)) slots) }
+{
+    seq_slots(alloc, seq_started(alloc, scan)?, params, stores, snap)
 }
 
 fn seq_slots(
@@ -69,17 +89,35 @@ fn index_slots(
     params: &[Value],
     stores: &Stores,
     snap: Snap,
-) -> Result<SlotList, NoMemory> {
+) -> Result<SlotList, NoMemory>
+    ensures { IfOk result (λ slots. AreAscending (index_left stores.now snap params.now scan) slots) }
+{
+    let mut numbers = index_numbers(alloc, scan, params, stores, snap)?;
+    numbers.sort_unstable();
+    numbered(alloc, numbers.as_slice())
+}
+
+/// The slots of the rows, in the order of the index.
+fn index_numbers(
+    alloc: Global,
+    scan: IndexState,
+    params: &[Value],
+    stores: &Stores,
+    snap: Snap,
+) -> Result<Vec<u64>, NoMemory>
+    ensures { IfOk result (λ numbers. numbers.items ≡ numbers_of (index_left stores.now snap params.now scan)) }
+{
     let mut scan = scan;
     let mut slots: Vec<u64> = Vec::new(alloc);
     while let Some((slot, _)) = scan.advance(alloc, stores, params, snap)? {
         slots.push(slot)?;
     }
-    slots.sort_unstable();
-    numbered(alloc, slots.as_slice())
+    Ok(slots)
 }
 
-fn numbered(alloc: Global, numbers: &[u64]) -> Result<SlotList, NoMemory> {
+fn numbered(alloc: Global, numbers: &[u64]) -> Result<SlotList, NoMemory>
+    ensures { IfOk result (λ slots. map (λ (slot : Place). slot.0) slots ≡ numbers.now) }
+{
     let mut slots = SlotList::new(alloc);
     for number in numbers {
         slots.push(SlotId(*number))?;

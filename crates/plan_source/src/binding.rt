@@ -1,3 +1,6 @@
+ghost use Rattle.std.specs.Prelude.{◌≡◌, ◌+◌, ◌↔◌, IsTrue, None, IfOk};
+ghost use Rattle.plan_source.specs.Sources as spec;
+
 use crate::Env;
 use analyzer::{Analysed, NameIds, Names, analyse};
 use cat_deps::uses_of;
@@ -47,7 +50,10 @@ pub(crate) fn find<L: Ledger>(
     declared: &[SqlType],
     env: &Env<'_>,
     work: &mut Work<L>,
-) -> Result<Found, Stop> {
+) -> Result<Found, Stop>
+    ensures new { IfOk result (λ found. spec.IsNew found.binding env.now) }
+    ensures counted { spec.CountsOne work.old result work.new }
+{
     let path = effective(alloc, env.path, env.catalog.schemas())?;
     let analysed = analyse(
         alloc,
@@ -61,7 +67,10 @@ pub(crate) fn find<L: Ledger>(
 }
 
 /// What an analysis along the search path of now found, once its views are pulled up.
-pub(crate) fn found_of(alloc: Global, analysed: Analysed, env: &Env<'_>) -> Result<Found, Stop> {
+pub(crate) fn found_of(alloc: Global, analysed: Analysed, env: &Env<'_>) -> Result<Found, Stop>
+    ensures new { IfOk result (λ found. spec.IsNew found.binding env.now) }
+    ensures analysed { IfOk result (λ found. (found.binding.bound ≡ analysed.bound) × (found.params ≡ analysed.params) × (found.columns ≡ analysed.result)) }
+{
     let path = effective(alloc, env.path, env.catalog.schemas())?;
     pulled_up(alloc, analysed, path, env)
 }
@@ -71,7 +80,11 @@ fn pulled_up(
     analysed: Analysed,
     path: SchemaList,
     env: &Env<'_>,
-) -> Result<Found, Stop> {
+) -> Result<Found, Stop>
+    ensures path { IfOk result (λ found. found.binding.path ≡ path) }
+    ensures none { IfOk result (λ found. found.binding.generic ≡ None) }
+    ensures analysed { IfOk result (λ found. (found.binding.bound ≡ analysed.bound) × (found.params ≡ analysed.params) × (found.columns ≡ analysed.result)) }
+{
     let flat = rewrite(alloc, &analysed.bound, env.catalog)?;
     let uses = uses_of(alloc, env.catalog, analysed.ids.as_slice())?;
     let width = width(&analysed.bound, env.catalog).min(u32::MAX as u64) as u32;
@@ -98,7 +111,9 @@ fn pulled_up(
 
 impl Binding {
     /// Tells whether the search path still leads to the schemas of the analysis.
-    pub(crate) fn is_along(&self, env: &Env<'_>) -> bool {
+    pub(crate) fn is_along(&self, env: &Env<'_>) -> bool
+        ensures { IsTrue result ↔ spec.IsAlong self.now env.now }
+    {
         same_effective(env.path, env.catalog.schemas(), &self.path)
     }
 
@@ -109,7 +124,9 @@ impl Binding {
         values: Option<&[Value]>,
         env: &Env<'_>,
         work: &mut Work<L>,
-    ) -> Result<Rc<Plan>, NoMemory> {
+    ) -> Result<Rc<Plan>, NoMemory>
+        ensures { work.new ≡ record work.old { plans = work.old.plans + 1 } }
+    {
         let input = PlanInput {
             catalog: env.catalog,
             switches: env.switches,

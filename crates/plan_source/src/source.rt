@@ -1,3 +1,11 @@
+ghost use Rattle.std.specs.Prelude.{◌≡◌, ◌≢◌, ◌↔◌, IsTrue, Some, None, IfOk, OnOk, IfErr, is_some, IsSome, IfSome, ℕ, not};
+ghost use Rattle.std.specs.Option.{option_copied, option_map};
+ghost use Rattle.plan_choice.specs.Choice.{no_uses, choice};
+ghost use Rattle.plan_invalid.specs.declared.source.SourceId.{SourceId as Id};
+ghost use Rattle.plan_invalid.specs.Sources.{source_of, is_marked, Changes};
+ghost use Rattle.plan_tree.specs.Costs.{cost_of};
+ghost use Rattle.plan_source.specs.Sources as spec;
+
 use crate::binding::{Binding, Found, find, found_of};
 use crate::is_same_result;
 use analyzer::Analysed;
@@ -74,6 +82,11 @@ impl From<NoMemory> for SourceStop {
 }
 
 impl From<Stop> for SourceStop {
+    ghost use Rattle.std.specs.Prelude.{◌≡◌};
+    ghost use Rattle.plan_source.specs.Stops.{source_stop};
+
+    ghost from_gives = { λ stop e. e ≡ source_stop stop };
+
     fn from(stop: Stop) -> SourceStop {
         match stop {
             Stop::Sql(error) => SourceStop::Sql(error),
@@ -103,7 +116,10 @@ impl CachedSource {
         env: &Env<'_>,
         marks: &mut Marks,
         work: &mut Work<L>,
-    ) -> Result<CachedSource, Stop> {
+    ) -> Result<CachedSource, Stop>
+        ensures prepared { IfOk result (λ source. spec.IsPrepared source tree env.now marks.old marks.new) }
+        ensures counted { spec.CountsOne work.old result work.new }
+    {
         let found = find(alloc, &tree, declared, env, work)?;
         source_of(alloc, tree, found, marks)
     }
@@ -115,7 +131,10 @@ impl CachedSource {
         analysed: Analysed,
         env: &Env<'_>,
         marks: &mut Marks,
-    ) -> Result<CachedSource, Stop> {
+    ) -> Result<CachedSource, Stop>
+        ensures prepared { IfOk result (λ source. spec.IsPrepared source tree env.now marks.old marks.new) }
+        ensures analysed { IfOk result (λ source. (source.params ≡ analysed.params) × (source.columns.value ≡ analysed.result)) }
+    {
         let found = found_of(alloc, analysed, env)?;
         source_of(alloc, tree, found, marks)
     }
@@ -130,7 +149,15 @@ impl CachedSource {
         env: &Env<'_>,
         marks: &mut Marks,
         work: &mut Work<L>,
-    ) -> Result<Ready, SourceStop> {
+    ) -> Result<Ready, SourceStop>
+        ensures fixed { spec.KeepsFixed self.old self.new }
+        ensures columns { IfOk result (λ ready. ready.columns.value ≡ self.old.columns.value) }
+        ensures takes { IfOk result (λ ready. spec.Takes env.now.mode self.old.params self.old.tally self.new.tally ready.choice (cost_of ready.plan.value)) }
+        ensures stands { OnOk result (IsSome (source_of marks.old self.old.id) → spec.Stands self.new env.now marks.new) }
+        ensures lost { IfErr result (spec.Loses self.old self.new) }
+        ensures kept { spec.Stands self.old env.now marks.old → (marks.new ≡ marks.old) × (work.new.analyses ≡ work.old.analyses) }
+        ensures others { (other : Id) → other ≢ self.old.id → source_of marks.new other ≡ source_of marks.old other }
+    {
         if !self.stands(env, marks) {
             self.renew(env, marks, work)?;
         }
@@ -146,7 +173,11 @@ impl CachedSource {
     }
 
     /// What a session shows of the statement.
-    pub fn show(&self, env: &Env<'_>, marks: &Marks) -> SourceView {
+    pub fn show(&self, env: &Env<'_>, marks: &Marks) -> SourceView
+        ensures standing { IsTrue result.standing ↔ spec.Stands self.now env.now marks.now }
+        ensures kept { IsTrue result.kept ↔ (spec.Stands self.now env.now marks.now × IsSome (spec.generic_of self.now.binding)) }
+        ensures tally { result.tally ≡ self.now.tally }
+    {
         let standing = self.stands(env, marks);
         SourceView {
             standing,
@@ -156,22 +187,30 @@ impl CachedSource {
     }
 
     /// The types of the parameters, as PREPARE fixed them.
-    pub fn params(&self) -> &TypeList {
+    pub fn params(&self) -> &TypeList
+        ensures { result.now ≡ self.now.params }
+    {
         &self.params
     }
 
     /// The columns that the statement gives, as PREPARE fixed them.
-    pub fn columns(&self) -> &ResultType {
+    pub fn columns(&self) -> &ResultType
+        ensures { result.now ≡ self.now.columns.value }
+    {
         &self.columns
     }
 
     /// The statement as it was written.
-    pub fn tree(&self) -> &Statement {
+    pub fn tree(&self) -> &Statement
+        ensures { result.now ≡ self.now.tree.value }
+    {
         &self.tree
     }
 
     /// The tables and views that the binding uses; `None` exactly where there is no binding.
-    pub fn uses(&self) -> Option<&IdList> {
+    pub fn uses(&self) -> Option<&IdList>
+        ensures { option_copied result ≡ spec.uses_of self.now.binding }
+    {
         match &self.binding {
             Some(binding) => Some(&binding.uses),
             None => None,
@@ -179,19 +218,26 @@ impl CachedSource {
     }
 
     /// Drops the statement with its marks.
-    pub fn retire(self, marks: &mut Marks) {
+    pub fn retire(self, marks: &mut Marks)
+        ensures removed { Changes marks.old marks.new self.id None }
+        ensures given { marks.new.given ≡ marks.old.given }
+    {
         marks.remove(self.id);
     }
 
     // Whether there is a binding that wasn't made invalid, along the search path of now.
-    fn stands(&self, env: &Env<'_>, marks: &Marks) -> bool {
+    fn stands(&self, env: &Env<'_>, marks: &Marks) -> bool
+        ensures { IsTrue result ↔ spec.Stands self.now env.now marks.now }
+    {
         match &self.binding {
             Some(binding) => !marks.is_marked(self.id) && binding.is_along(env),
             None => false,
         }
     }
 
-    fn has_generic(&self) -> bool {
+    fn has_generic(&self) -> bool
+        ensures { result ≡ is_some (spec.generic_of self.now.binding) }
+    {
         match &self.binding {
             Some(binding) => binding.generic.is_some(),
             None => false,
@@ -204,9 +250,14 @@ impl CachedSource {
         env: &Env<'_>,
         marks: &mut Marks,
         work: &mut Work<L>,
-    ) -> Result<(), SourceStop> {
-        self.binding = None;
-        marks.mark_one(self.id);
+    ) -> Result<(), SourceStop>
+        ensures fixed { spec.KeepsFixed self.old self.new }
+        ensures tally { self.new.tally ≡ self.old.tally }
+        ensures lost { IfErr result (spec.Loses self.old self.new) }
+        ensures stands { OnOk result (IsSome (source_of marks.old self.old.id) → spec.Stands self.new env.now marks.new) }
+        ensures others { (other : Id) → other ≢ self.old.id → source_of marks.new other ≡ source_of marks.old other }
+    {
+        self.let_go(marks);
         let Found {
             binding,
             params: _,
@@ -220,7 +271,22 @@ impl CachedSource {
         Ok(())
     }
 
-    fn changed(&self, now: ResultType) -> SourceStop {
+    // Drops the binding and marks the source.
+    #[tactic(auto, using(crate::proofs::Marked::still_some))]
+    fn let_go(&mut self, marks: &mut Marks)
+        ensures fixed { spec.KeepsFixed self.old self.new }
+        ensures tally { self.new.tally ≡ self.old.tally }
+        ensures none { self.new.binding ≡ None }
+        ensures still { IsSome (source_of marks.old self.old.id) → IsSome (source_of marks.new self.old.id) }
+        ensures others { (other : Id) → other ≢ self.old.id → source_of marks.new other ≡ source_of marks.old other }
+    {
+        self.binding = None;
+        marks.mark_one(self.id);
+    }
+
+    fn changed(&self, now: ResultType) -> SourceStop
+        ensures { spec.Tells self.now.columns now result }
+    {
         match Rc::clone(&self.columns) {
             Ok(kept) => SourceStop::Changed { kept, now },
             Err(_) => SourceStop::NoMemory,
@@ -228,7 +294,10 @@ impl CachedSource {
     }
 
     // Has the marks tell of changes of these objects from now on.
-    fn watch(&self, marks: &mut Marks, uses: &IdList) -> Result<(), NoMemory> {
+    fn watch(&self, marks: &mut Marks, uses: &IdList) -> Result<(), NoMemory>
+        ensures watches { OnOk result (IsSome (source_of marks.old self.now.id) → IsTrue (not (is_marked (source_of marks.new self.now.id)))) }
+        ensures others { (other : Id) → other ≢ self.now.id → source_of marks.new other ≡ source_of marks.old other }
+    {
         if !marks.has(self.id) {
             return Ok(());
         }
@@ -241,7 +310,12 @@ impl CachedSource {
         values: &[Value],
         env: &Env<'_>,
         work: &mut Work<L>,
-    ) -> Result<(Option<Rc<Plan>>, Choice), NoMemory> {
+    ) -> Result<(Option<Rc<Plan>>, Choice), NoMemory>
+        ensures fixed { spec.KeepsFixed self.old self.new }
+        ensures binding { spec.KeepsBinding self.old.binding self.new.binding }
+        ensures takes { IfOk result (λ taken. IfSome taken.0 (λ plan. spec.Takes env.now.mode self.old.params self.old.tally self.new.tally taken.1 (cost_of plan.value))) }
+        ensures counted { work.new.analyses ≡ work.old.analyses }
+    {
         if self.choice(env) == Choice::Generic {
             self.keep_generic(env, work)?;
         }
@@ -251,16 +325,21 @@ impl CachedSource {
         }
     }
 
-    fn choice(&self, env: &Env<'_>) -> Choice {
+    fn choice(&self, env: &Env<'_>) -> Choice
+        ensures { result ≡ choice env.now.mode (spec.has_params self.now.params) self.now.tally }
+    {
         choose(env.mode, !self.params.as_slice().is_empty(), &self.tally)
     }
 
     // Makes the generic plan, where none is kept.
-    fn keep_generic<L: Ledger>(
-        &mut self,
-        env: &Env<'_>,
-        work: &mut Work<L>,
-    ) -> Result<(), NoMemory> {
+    fn keep_generic<L: Ledger>(&mut self, env: &Env<'_>, work: &mut Work<L>) -> Result<(), NoMemory>
+        ensures fixed { spec.KeepsFixed self.old self.new }
+        ensures binding { spec.KeepsBinding self.old.binding self.new.binding }
+        ensures tally { self.new.tally ≡ record self.old.tally { generic_cost = self.new.tally.generic_cost } }
+        ensures made { OnOk result (IsSome self.old.binding → IsSome (spec.generic_of self.new.binding)) }
+        ensures kept { IsSome (spec.generic_of self.old.binding) → (self.new ≡ self.old) × (work.new ≡ work.old) }
+        ensures counted { work.new.analyses ≡ work.old.analyses }
+    {
         if let Some(binding) = &mut self.binding {
             if binding.generic.is_none() {
                 let plan = binding.planned(self.alloc, None, env, work)?;
@@ -272,7 +351,12 @@ impl CachedSource {
     }
 
     // The plan that is kept, for one more use.
-    fn take_generic(&mut self) -> Result<Option<Rc<Plan>>, NoMemory> {
+    fn take_generic(&mut self) -> Result<Option<Rc<Plan>>, NoMemory>
+        ensures fixed { spec.KeepsFixed self.old self.new }
+        ensures binding { self.new.binding ≡ self.old.binding }
+        ensures plan { IfOk result (λ plan. option_map (λ p. p.value) plan ≡ option_map (λ p. p.value) (spec.generic_of self.old.binding)) }
+        ensures tally { IfOk result (λ plan. IfSome plan (λ _. self.new.tally ≡ spec.with_generic_use self.old.tally)) }
+    {
         let Some(binding) = &self.binding else {
             return Ok(None);
         };
@@ -292,7 +376,12 @@ impl CachedSource {
         values: &[Value],
         env: &Env<'_>,
         work: &mut Work<L>,
-    ) -> Result<Option<Rc<Plan>>, NoMemory> {
+    ) -> Result<Option<Rc<Plan>>, NoMemory>
+        ensures fixed { spec.KeepsFixed self.old self.new }
+        ensures binding { self.new.binding ≡ self.old.binding }
+        ensures tally { IfOk result (λ plan. IfSome plan (λ p. (width : ℕ) × (self.new.tally ≡ spec.with_custom_use self.old.tally (cost_of p.value) width))) }
+        ensures counted { work.new.analyses ≡ work.old.analyses }
+    {
         let Some(binding) = &self.binding else {
             return Ok(None);
         };
@@ -302,7 +391,11 @@ impl CachedSource {
         Ok(Some(plan))
     }
 
-    fn count_custom(&mut self, cost: u64, width: u32) {
+    fn count_custom(&mut self, cost: u64, width: u32)
+        ensures fixed { spec.KeepsFixed self.old self.new }
+        ensures binding { self.new.binding ≡ self.old.binding }
+        ensures tally { self.new.tally ≡ spec.with_custom_use self.old.tally cost width }
+    {
         if self.tally.custom_count < MOST_USES && self.tally.custom_sum < MOST_COST {
             self.tally.use_custom(cost, width);
         }
@@ -310,7 +403,11 @@ impl CachedSource {
 }
 
 // A new source that is told of changes of these objects. There are never 2^62 of them.
-fn watched(marks: &mut Marks, uses: &IdList) -> Result<SourceId, NoMemory> {
+#[tactic(auto, using(crate::proofs::Marked::changes_again))]
+fn watched(marks: &mut Marks, uses: &IdList) -> Result<SourceId, NoMemory>
+    ensures new { IfOk result (λ id. source_of marks.old id ≡ None) }
+    ensures watches { IfOk result (λ id. Changes marks.old marks.new id (Some (spec.watcher id uses.now))) }
+{
     if !marks.has_room() {
         return Err(NoMemory);
     }
@@ -324,7 +421,11 @@ fn source_of(
     tree: Rc<Statement>,
     found: Found,
     marks: &mut Marks,
-) -> Result<CachedSource, Stop> {
+) -> Result<CachedSource, Stop>
+    ensures new { IfOk result (λ source. source_of marks.old source.id ≡ None) }
+    ensures watches { IfOk result (λ source. Changes marks.old marks.new source.id (Some (spec.watcher source.id found.binding.uses))) }
+    ensures found { IfOk result (λ source. (source.tree ≡ tree) × (source.params ≡ found.params) × (source.columns.value ≡ found.columns) × (source.binding ≡ Some found.binding) × (source.tally ≡ no_uses)) }
+{
     let id = watched(marks, &found.binding.uses)?;
     let Found {
         binding,

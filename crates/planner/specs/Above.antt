@@ -1,10 +1,17 @@
 -- What the nodes above the joins of a block are thought to cost and to give.
-use Rattle.std.specs.Prelude.{ℕ, ◌==◌, Bool, true, false, not, ◌&&◌, length, if◌then◌else◌}
+use Rattle.std.specs.Prelude.{ℕ, ◌==◌, Bool, not, ◌&&◌, ◌||◌, length, List, map, is_some, if◌then◌else◌}
 use Rattle.q_base.specs.declared.settings.Switches.{Switches}
 use Rattle.query_tree.specs.declared.query.Query.{Query}
+use Rattle.query_tree.specs.declared.target.Target.{Target}
+use Rattle.plan_tree.specs.declared.node.Cut.{Cut}
 use Rattle.plan_tree.specs.declared.node.Estimate.{Estimate}
+use Rattle.plan_tree.specs.declared.node.GroupNode.{GroupNode}
+use Rattle.plan_tree.specs.declared.node.Node.{Node}
+use Rattle.plan_tree.specs.declared.node.Node.TheVariants as node
+use Rattle.plan_tree.specs.Costs.{estimate_of}
 use Rattle.cost_units.specs.Costs.{check_cost, aggregate_cost, unique_cost, sort_cost, charged}
 use Rattle.cost_units.specs.Estimates.{thirds, grouped_rows, unique_rows}
+use Rattle.planner.specs.Changed.{Changing, changed, some_changed, changed_aggregate, changed_key}
 
 -- a Check of so many conditions, each of which leaves a third
 abbrev pub checked : Estimate → ℕ → Estimate
@@ -42,3 +49,38 @@ ordered input query delivered switches = if has_sort query delivered then sorted
 -- Unique where DISTINCT, Sort where the order isn't delivered; a Limit changes neither number
 abbrev pub topmost : Estimate → ℕ → Query → Bool → Switches → Estimate
 topmost joined fallible query delivered switches = ordered (distinct (grouped (tested joined fallible) query) query) query delivered switches
+
+-- a Check above a node where conditions may fault
+abbrev pub with_check : Node → List Target → Node
+with_check input fallible = if length fallible == 0 then input else node.Check (checked (estimate_of input) (length fallible)) fallible input
+
+abbrev pub group_of : Query → Changing → GroupNode
+group_of query change = record {
+  keys = map (changed change) query.keys;
+  aggregates = map (changed_aggregate change) query.aggregates;
+  having = map (changed change) query.having;
+  width = change.width
+}
+
+abbrev pub with_groups : Node → Query → Changing → Node
+with_groups input query change = if query.grouped then node.Aggregate (aggregated (estimate_of input) query) (group_of query change) input else input
+
+abbrev pub with_unique : Node → Query → Changing → Node
+with_unique input query change = if query.distinct then node.Unique (unique (estimate_of input)) (map (changed change) query.targets) input else input
+
+abbrev pub with_sort : Node → Query → Changing → Bool → Switches → Node
+with_sort input query change delivered switches = if has_sort query delivered then node.Sort (sorted (estimate_of input) switches) (map (changed_key change) query.order) input else input
+
+-- LIMIT or OFFSET is written
+abbrev pub has_cut : Query → Bool
+has_cut query = is_some query.limit || is_some query.offset
+
+abbrev pub cut_of : Query → Changing → Cut
+cut_of query change = record { limit = some_changed change query.limit; offset = some_changed change query.offset }
+
+abbrev pub with_limit : Node → Query → Changing → Node
+with_limit input query change = if has_cut query then node.Limit (estimate_of input) (cut_of query change) input else input
+
+-- Aggregate where grouped, Unique where DISTINCT, Sort where the order isn't delivered, Limit where LIMIT or OFFSET is written
+abbrev pub with_upper : Node → Query → Changing → Bool → Switches → Node
+with_upper tested query change delivered switches = with_limit (with_sort (with_unique (with_groups tested query change) query change) query change delivered switches) query change

@@ -1,5 +1,7 @@
-ghost use Rattle.std.specs.Prelude.{◌≡◌};
+ghost use Rattle.std.specs.Prelude.{◌≡◌, IfOk};
+ghost use Rattle.std.specs.Option.{option_copied};
 ghost use Rattle.planner.specs.Above as spec;
+ghost use Rattle.planner.specs.Changed as changes;
 
 use crate::changed::{Change, aggregates_changed, all_changed, keys_changed, some_changed};
 use cost_units::{
@@ -59,7 +61,9 @@ fn has_sort(query: &Query, delivered: bool) -> bool
 }
 
 /// Tells whether LIMIT or OFFSET is written.
-fn has_cut(query: &Query) -> bool {
+fn has_cut(query: &Query) -> bool
+    ensures { result ≡ spec.has_cut query.now }
+{
     query.limit.is_some() || query.offset.is_some()
 }
 
@@ -116,7 +120,9 @@ fn ordered(input: Estimate, query: &Query, delivered: bool, switches: Switches) 
 }
 
 /// Puts a Check above a node where conditions may fault.
-pub fn with_check(alloc: Global, input: Node, fallible: CondList) -> Result<Node, NoMemory> {
+pub fn with_check(alloc: Global, input: Node, fallible: CondList) -> Result<Node, NoMemory>
+    ensures { IfOk result (λ node. node ≡ spec.with_check input fallible) }
+{
     if fallible.as_slice().is_empty() {
         return Ok(input);
     }
@@ -132,7 +138,9 @@ pub fn with_upper(
     change: Change<'_>,
     delivered: bool,
     switches: Switches,
-) -> Result<Node, NoMemory> {
+) -> Result<Node, NoMemory>
+    ensures { IfOk result (λ node. node ≡ spec.with_upper tested query.now (changes.changing (option_copied change.entry.params) change.entry.offsets.now change.entry.width) delivered switches) }
+{
     let grouped = with_groups(alloc, tested, query, change)?;
     let distinct = with_unique(alloc, grouped, query, change)?;
     let ordered = with_sort(alloc, distinct, query, change, delivered, switches)?;
@@ -144,7 +152,9 @@ fn with_groups(
     input: Node,
     query: &Query,
     change: Change<'_>,
-) -> Result<Node, NoMemory> {
+) -> Result<Node, NoMemory>
+    ensures { IfOk result (λ node. node ≡ spec.with_groups input query.now (changes.changing (option_copied change.entry.params) change.entry.offsets.now change.entry.width)) }
+{
     if !query.grouped {
         return Ok(input);
     }
@@ -153,7 +163,9 @@ fn with_groups(
     Ok(Node::Aggregate(estimate, group, Boxed::new(alloc, input)?))
 }
 
-fn group_node(alloc: Global, query: &Query, change: Change<'_>) -> Result<GroupNode, NoMemory> {
+fn group_node(alloc: Global, query: &Query, change: Change<'_>) -> Result<GroupNode, NoMemory>
+    ensures { IfOk result (λ group. group ≡ spec.group_of query.now (changes.changing (option_copied change.entry.params) change.entry.offsets.now change.entry.width)) }
+{
     Ok(GroupNode {
         keys: all_changed(alloc, query.keys.as_slice(), change)?,
         aggregates: aggregates_changed(alloc, query.aggregates.as_slice(), change)?,
@@ -167,7 +179,9 @@ fn with_unique(
     input: Node,
     query: &Query,
     change: Change<'_>,
-) -> Result<Node, NoMemory> {
+) -> Result<Node, NoMemory>
+    ensures { IfOk result (λ node. node ≡ spec.with_unique input query.now (changes.changing (option_copied change.entry.params) change.entry.offsets.now change.entry.width)) }
+{
     if !query.distinct {
         return Ok(input);
     }
@@ -183,7 +197,9 @@ fn with_sort(
     change: Change<'_>,
     delivered: bool,
     switches: Switches,
-) -> Result<Node, NoMemory> {
+) -> Result<Node, NoMemory>
+    ensures { IfOk result (λ node. node ≡ spec.with_sort input query.now (changes.changing (option_copied change.entry.params) change.entry.offsets.now change.entry.width) delivered switches) }
+{
     if !has_sort(query, delivered) {
         return Ok(input);
     }
@@ -197,7 +213,9 @@ fn with_limit(
     input: Node,
     query: &Query,
     change: Change<'_>,
-) -> Result<Node, NoMemory> {
+) -> Result<Node, NoMemory>
+    ensures { IfOk result (λ node. node ≡ spec.with_limit input query.now (changes.changing (option_copied change.entry.params) change.entry.offsets.now change.entry.width)) }
+{
     if !has_cut(query) {
         return Ok(input);
     }
@@ -206,7 +224,9 @@ fn with_limit(
     Ok(Node::Limit(estimate, cut, Boxed::new(alloc, input)?))
 }
 
-fn cut_of(alloc: Global, query: &Query, change: Change<'_>) -> Result<Cut, NoMemory> {
+fn cut_of(alloc: Global, query: &Query, change: Change<'_>) -> Result<Cut, NoMemory>
+    ensures { IfOk result (λ cut. cut ≡ spec.cut_of query.now (changes.changing (option_copied change.entry.params) change.entry.offsets.now change.entry.width)) }
+{
     Ok(Cut {
         limit: some_changed(alloc, &query.limit, change)?,
         offset: some_changed(alloc, &query.offset, change)?,

@@ -1,3 +1,8 @@
+ghost use Rattle.std.specs.Prelude.{◌≡◌, map, IfOk};
+ghost use Rattle.std.specs.Option.{option_copied};
+ghost use Rattle.planner.specs.Changed as spec;
+ghost use Rattle.planner.specs.Sets as sets;
+
 use crate::sets::{ItemSet, single};
 use q_base::NoMemory;
 use q_value::{SqlType, Value};
@@ -20,7 +25,9 @@ pub struct Change<'a> {
 
 /// A copy of an expression with its parameters and places changed.
 #[cycle(changed)]
-pub fn changed(alloc: Global, target: &Target, change: Change<'_>) -> Result<Target, NoMemory> {
+pub fn changed(alloc: Global, target: &Target, change: Change<'_>) -> Result<Target, NoMemory>
+    ensures { IfOk result (λ copy. copy ≡ spec.changed (spec.changing (option_copied change.entry.params) change.entry.offsets.now change.entry.width) target.now) }
+{
     match target {
         Target::Const(kind, value) => Ok(Target::Const(*kind, value.copy(alloc)?)),
         Target::Param(kind, number) => changed_param(alloc, *kind, *number, change.params),
@@ -66,7 +73,9 @@ fn changed_boxed(
     alloc: Global,
     target: &Boxed<Target>,
     change: Change<'_>,
-) -> Result<Boxed<Target>, NoMemory> {
+) -> Result<Boxed<Target>, NoMemory>
+    ensures { IfOk result (λ copy. copy ≡ spec.changed (spec.changing (option_copied change.entry.params) change.entry.offsets.now change.entry.width) target.now) }
+{
     Ok(Boxed::new(alloc, changed(alloc, target.get(), change)?)?)
 }
 
@@ -75,7 +84,9 @@ fn changed_operands(
     alloc: Global,
     operands: &Items<Target>,
     change: Change<'_>,
-) -> Result<Items<Target>, NoMemory> {
+) -> Result<Items<Target>, NoMemory>
+    ensures { IfOk result (λ copies. copies ≡ map (spec.changed (spec.changing (option_copied change.entry.params) change.entry.offsets.now change.entry.width)) operands.now) }
+{
     let mut copies = Items::new(alloc);
     for operand in operands.as_slice() {
         copies.push(changed(alloc, operand, change)?)?;
@@ -88,18 +99,24 @@ fn changed_param(
     kind: SqlType,
     number: u32,
     params: Option<&[Value]>,
-) -> Result<Target, NoMemory> {
+) -> Result<Target, NoMemory>
+    ensures { IfOk result (λ copy. copy ≡ spec.param_as kind number (spec.value_of number (option_copied params.entry))) }
+{
     match param_value(number, params) {
         Some(value) => Ok(Target::Const(kind, value.copy(alloc)?)),
         None => Ok(Target::Param(kind, number)),
     }
 }
 
-fn param_value(number: u32, params: Option<&[Value]>) -> Option<&Value> {
+fn param_value(number: u32, params: Option<&[Value]>) -> Option<&Value>
+    ensures { option_copied result ≡ spec.value_of number (option_copied params.entry) }
+{
     params?.get((number as usize).checked_sub(1)?)
 }
 
-fn placed(column: &ColumnPlace, offsets: &[usize]) -> ColumnPlace {
+fn placed(column: &ColumnPlace, offsets: &[usize]) -> ColumnPlace
+    ensures { result ≡ spec.placed column.now offsets.now }
+{
     ColumnPlace {
         item: column.item,
         column: column.column,
@@ -107,14 +124,18 @@ fn placed(column: &ColumnPlace, offsets: &[usize]) -> ColumnPlace {
     }
 }
 
-fn offset_of(item: usize, offsets: &[usize]) -> usize {
+fn offset_of(item: usize, offsets: &[usize]) -> usize
+    ensures { result ≡ spec.offset_of item offsets.now }
+{
     match offsets.get(item) {
         Some(offset) => *offset,
         None => 0,
     }
 }
 
-fn placed_behind(aggregate: &AggregatePlace, width: usize) -> AggregatePlace {
+fn placed_behind(aggregate: &AggregatePlace, width: usize) -> AggregatePlace
+    ensures { result ≡ spec.placed_behind aggregate.now width }
+{
     AggregatePlace {
         number: aggregate.number,
         place: width.saturating_add(aggregate.number),
@@ -126,7 +147,9 @@ pub fn all_changed(
     alloc: Global,
     targets: &[Target],
     change: Change<'_>,
-) -> Result<TargetList, NoMemory> {
+) -> Result<TargetList, NoMemory>
+    ensures { IfOk result (λ copies. copies ≡ map (spec.changed (spec.changing (option_copied change.entry.params) change.entry.offsets.now change.entry.width)) targets.now) }
+{
     let mut copies = TargetList::new(alloc);
     for target in targets {
         copies.push(changed(alloc, target, change)?)?;
@@ -139,7 +162,9 @@ pub fn some_changed(
     alloc: Global,
     target: &Option<Target>,
     change: Change<'_>,
-) -> Result<Option<Target>, NoMemory> {
+) -> Result<Option<Target>, NoMemory>
+    ensures { IfOk result (λ copy. copy ≡ spec.some_changed (spec.changing (option_copied change.entry.params) change.entry.offsets.now change.entry.width) target.now) }
+{
     match target {
         Some(target) => Ok(Some(changed(alloc, target, change)?)),
         None => Ok(None),
@@ -151,7 +176,9 @@ pub fn keys_changed(
     alloc: Global,
     keys: &[SortKey],
     change: Change<'_>,
-) -> Result<SortKeyList, NoMemory> {
+) -> Result<SortKeyList, NoMemory>
+    ensures { IfOk result (λ copies. copies ≡ map (spec.changed_key (spec.changing (option_copied change.entry.params) change.entry.offsets.now change.entry.width)) keys.now) }
+{
     let mut copies = SortKeyList::new(alloc);
     for key in keys {
         copies.push(key_changed(alloc, key, change)?)?;
@@ -159,7 +186,9 @@ pub fn keys_changed(
     Ok(copies)
 }
 
-fn key_changed(alloc: Global, key: &SortKey, change: Change<'_>) -> Result<SortKey, NoMemory> {
+fn key_changed(alloc: Global, key: &SortKey, change: Change<'_>) -> Result<SortKey, NoMemory>
+    ensures { IfOk result (λ copy. copy ≡ spec.changed_key (spec.changing (option_copied change.entry.params) change.entry.offsets.now change.entry.width) key.now) }
+{
     Ok(SortKey {
         target: changed(alloc, &key.target, change)?,
         desc: key.desc,
@@ -172,7 +201,9 @@ pub fn aggregates_changed(
     alloc: Global,
     aggregates: &[Aggregate],
     change: Change<'_>,
-) -> Result<AggregateList, NoMemory> {
+) -> Result<AggregateList, NoMemory>
+    ensures { IfOk result (λ copies. copies ≡ map (spec.changed_aggregate (spec.changing (option_copied change.entry.params) change.entry.offsets.now change.entry.width)) aggregates.now) }
+{
     let mut copies = AggregateList::new(alloc);
     for aggregate in aggregates {
         copies.push(aggregate_changed(alloc, aggregate, change)?)?;
@@ -184,7 +215,9 @@ fn aggregate_changed(
     alloc: Global,
     aggregate: &Aggregate,
     change: Change<'_>,
-) -> Result<Aggregate, NoMemory> {
+) -> Result<Aggregate, NoMemory>
+    ensures { IfOk result (λ copy. copy ≡ spec.changed_aggregate (spec.changing (option_copied change.entry.params) change.entry.offsets.now change.entry.width) aggregate.now) }
+{
     Ok(match aggregate {
         Aggregate::CountRows => Aggregate::CountRows,
         Aggregate::Count(argument) => Aggregate::Count(changed(alloc, argument, change)?),
@@ -196,7 +229,9 @@ fn aggregate_changed(
 
 /// The items whose columns an expression names.
 #[cycle(items)]
-pub fn items_of(target: &Target) -> ItemSet {
+pub fn items_of(target: &Target) -> ItemSet
+    ensures { result ≡ sets.items_of target.now }
+{
     match target {
         Target::Const(_, _) | Target::Param(_, _) | Target::Aggregate(_, _) => 0,
         Target::Column(_, column) => single(column.item),
@@ -215,7 +250,9 @@ pub fn items_of(target: &Target) -> ItemSet {
 }
 
 #[cycle(items)]
-fn items_of_all(targets: &[Target]) -> ItemSet {
+fn items_of_all(targets: &[Target]) -> ItemSet
+    ensures { result ≡ sets.united 0 (map sets.items_of targets.now) }
+{
     let mut items = 0;
     for target in targets {
         items |= items_of(target);

@@ -1,3 +1,7 @@
+ghost use Rattle.std.specs.Prelude.{◌≡◌};
+ghost use Rattle.std.specs.Option.{option_copied};
+ghost use Rattle.planner.specs.Conditions as spec;
+
 use cat_core::{Catalog, Def, TableDef};
 use q_base::{ObjId, Switches};
 
@@ -9,7 +13,9 @@ pub struct PlanInput<'a> {
 }
 
 /// The table of an id.
-pub fn table_of(catalog: &Catalog, id: ObjId) -> Option<&TableDef> {
+pub fn table_of(catalog: &Catalog, id: ObjId) -> Option<&TableDef>
+    ensures { option_copied result ≡ spec.table_of catalog.now.slots id }
+{
     match &catalog.entry(id)?.def {
         Def::Table(table) => Some(table),
         _ => None,

@@ -1,3 +1,6 @@
+ghost use Rattle.std.specs.Prelude.{◌≡◌, min};
+ghost use Rattle.planner.specs.Scans as spec;
+
 use crate::served::{equal_columns, is_served};
 use cat_core::{Def, Entry, EntryList, IndexDef};
 use cost_units::{charged, index_scan_cost, rows_in, rows_of, seq_scan_cost, subquery_scan_cost};
@@ -49,17 +52,31 @@ pub struct Wanted<'a> {
 }
 
 /// Tells whether an index goes in the wanted order: its first columns are the keys, ascending with nulls last.
-fn delivers(wanted: Wanted<'_>, columns: &[ColId]) -> bool {
+fn delivers(wanted: Wanted<'_>, columns: &[ColId]) -> bool
+    ensures { result ≡ spec.delivers wanted.entry.keys.now wanted.entry.item columns.now }
+{
     let keys = wanted.keys;
-    !keys.is_empty()
-        && keys.len() <= columns.len()
-        && keys
-            .iter()
-            .zip(columns)
-            .all(|(key, column)| is_key_of(key, wanted.item, *column))
+    !keys.is_empty() && goes_by(keys, wanted.item, columns)
 }
 
-fn is_key_of(key: &SortKey, item: usize, column: ColId) -> bool {
+/// Tells whether the keys are the first columns of an index, in order.
+fn goes_by(keys: &[SortKey], item: usize, columns: &[ColId]) -> bool
+    ensures { result ≡ spec.goes_by keys.now item columns.now }
+{
+    for (place, key) in keys.iter().enumerate() {
+        let Some(column) = columns.get(place) else {
+            return false;
+        };
+        if !is_key_of(key, item, *column) {
+            return false;
+        }
+    }
+    true
+}
+
+fn is_key_of(key: &SortKey, item: usize, column: ColId) -> bool
+    ensures { result ≡ spec.is_key_of key.now item column }
+{
     match &key.target {
         Target::Column(_, place) => {
             place.item == item && place.column == column && !key.desc && !key.nulls_first
@@ -69,7 +86,9 @@ fn is_key_of(key: &SortKey, item: usize, column: ColId) -> bool {
 }
 
 /// The rows of which all conditions leave so many: as many as the strictest of them.
-fn rows_left(stats: &TableStats, conds: &[Cond]) -> u64 {
+fn rows_left(stats: &TableStats, conds: &[Cond]) -> u64
+    ensures { result ≡ spec.rows_left stats.now conds.now }
+{
     let mut left = rows_in(stats);
     for cond in conds {
         left = smaller(left, rows_of(cond, stats));
@@ -78,7 +97,9 @@ fn rows_left(stats: &TableStats, conds: &[Cond]) -> u64 {
 }
 
 /// The rows that an index scan finds, by the conditions that it uses.
-fn rows_found(stats: &TableStats, conds: &[Cond], columns: &[ColId], equal: usize) -> u64 {
+fn rows_found(stats: &TableStats, conds: &[Cond], columns: &[ColId], equal: usize) -> u64
+    ensures { result ≡ spec.rows_found stats.now conds.now columns.now equal }
+{
     let mut found = rows_in(stats);
     for cond in conds {
         if is_served(cond, columns, equal) {
@@ -88,7 +109,9 @@ fn rows_found(stats: &TableStats, conds: &[Cond], columns: &[ColId], equal: usiz
     found
 }
 
-fn smaller(left: u64, right: u64) -> u64 {
+fn smaller(left: u64, right: u64) -> u64
+    ensures { result ≡ min left right }
+{
     if left < right { left } else { right }
 }
 
@@ -121,7 +144,9 @@ pub fn table_facts(
     })
 }
 
-fn seq_scan(stats: &TableStats, conds: &[Cond], switches: Switches) -> ScanFacts {
+fn seq_scan(stats: &TableStats, conds: &[Cond], switches: Switches) -> ScanFacts
+    ensures { result ≡ spec.seq_scan stats.now conds.now switches }
+{
     let cost = seq_scan_cost(rows_in(stats), conds.len() as u64);
     ScanFacts {
         cost: charged(cost, switches.seqscan),
@@ -153,7 +178,9 @@ fn index_scan(
     conds: &[Cond],
     wanted: Wanted<'_>,
     switches: Switches,
-) -> ScanFacts {
+) -> ScanFacts
+    ensures { result ≡ spec.index_scan place index.now.columns stats.now conds.now wanted.entry.keys.now wanted.entry.item switches }
+{
     let columns = index.columns.as_slice();
     let found = rows_found(stats, conds, columns, equal_columns(columns, conds));
     let cost = index_scan_cost(rows_in(stats), found, conds.len() as u64);
@@ -191,7 +218,9 @@ pub fn derived_facts(
 }
 
 /// The least scan, the first of equal ones. An item has one at least.
-fn least_of(scans: &[ScanFacts]) -> Least {
+fn least_of(scans: &[ScanFacts]) -> Least
+    ensures { result ≡ spec.least_of scans.now }
+{
     let mut least = Least {
         scan: 0,
         cost: u64::MAX,
@@ -208,7 +237,9 @@ fn least_of(scans: &[ScanFacts]) -> Least {
 }
 
 /// The place of the least scan that delivers the wanted order, or of the least that doesn't.
-pub fn least_start(scans: &[ScanFacts], delivers: bool) -> Option<usize> {
+pub fn least_start(scans: &[ScanFacts], delivers: bool) -> Option<usize>
+    ensures { result ≡ spec.least_start scans.now delivers }
+{
     let mut least: Option<usize> = None;
     for (place, scan) in scans.iter().enumerate() {
         if scan.delivers == delivers {
@@ -224,7 +255,9 @@ fn lesser(
     least: Option<usize>,
     place: usize,
     scan: &ScanFacts,
-) -> Option<usize> {
+) -> Option<usize>
+    ensures { result ≡ spec.lesser scans.now least place scan.now }
+{
     match least {
         Some(earlier) => match scans.get(earlier) {
             Some(least) if least.cost <= scan.cost => Some(earlier),

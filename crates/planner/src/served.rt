@@ -1,3 +1,7 @@
+ghost use Rattle.std.specs.Prelude.{◌≡◌};
+ghost use Rattle.std.specs.Option.{option_copied};
+ghost use Rattle.planner.specs.Served as spec;
+
 use cost_units::column_test;
 use plan_tree::RangeEnd;
 use q_base::{ColId, NoMemory};
@@ -5,7 +9,9 @@ use query_tree::{CompareOp, Cond, Target, TargetList};
 use std::alloc::Global;
 
 /// How many of an index's first columns a condition `column = v` names, v a constant or a parameter.
-pub fn equal_columns(columns: &[ColId], conds: &[Cond]) -> usize {
+pub fn equal_columns(columns: &[ColId], conds: &[Cond]) -> usize
+    ensures { result ≡ spec.equal_columns columns.now conds.now }
+{
     for (place, column) in columns.iter().enumerate() {
         if equal_value(*column, conds).is_none() {
             return place;
@@ -15,7 +21,9 @@ pub fn equal_columns(columns: &[ColId], conds: &[Cond]) -> usize {
 }
 
 /// The value of the first condition `column = v`.
-fn equal_value(column: ColId, conds: &[Cond]) -> Option<&Target> {
+fn equal_value(column: ColId, conds: &[Cond]) -> Option<&Target>
+    ensures { option_copied result ≡ spec.equal_value column conds.now }
+{
     for cond in conds {
         match column_test(cond) {
             Some(test) if test.op == CompareOp::Equal && test.column.column == column => {
@@ -29,14 +37,18 @@ fn equal_value(column: ColId, conds: &[Cond]) -> Option<&Target> {
 
 /// Tells whether an index scan uses a condition: one `column = v` of the first columns that have such, or one
 /// `< <= > >=` of the column behind those.
-pub fn is_served(cond: &Cond, columns: &[ColId], equal: usize) -> bool {
+pub fn is_served(cond: &Cond, columns: &[ColId], equal: usize) -> bool
+    ensures { result ≡ spec.is_served cond.now columns.now equal }
+{
     match column_test(cond) {
         Some(test) => is_served_at(test.op, place_of(test.column.column, columns), equal),
         None => false,
     }
 }
 
-fn is_served_at(op: CompareOp, place: Option<usize>, equal: usize) -> bool {
+fn is_served_at(op: CompareOp, place: Option<usize>, equal: usize) -> bool
+    ensures { result ≡ spec.is_served_at op place equal }
+{
     match place {
         Some(place) if place < equal => op == CompareOp::Equal,
         Some(place) => place == equal,
@@ -44,7 +56,9 @@ fn is_served_at(op: CompareOp, place: Option<usize>, equal: usize) -> bool {
     }
 }
 
-fn place_of(column: ColId, columns: &[ColId]) -> Option<usize> {
+fn place_of(column: ColId, columns: &[ColId]) -> Option<usize>
+    ensures { result ≡ spec.place_of column columns.now }
+{
     columns.iter().position(|candidate| *candidate == column)
 }
 

@@ -1,0 +1,5 @@
+use Rattle.dml.proofs.Steps.{none_ended, not_both}
+use Rattle.dml.proofs.entries.end_row.Goals as goal
+
+pub returns-then-not-is_live : goal.returns-then-not-is_live
+returns-then-not-is_live c = none_ended c.shown_by_rows.ensures _ _ _ (not_both _ c.if-not-is_live.true c.is_live.ensures.1)
