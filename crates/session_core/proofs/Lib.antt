@@ -1,4 +1,3 @@
 mod Nowhere
-pub mod Changes
 pub mod Entries
 pub mod Steps

@@ -15,12 +15,7 @@ use result_text::{Tag, count_text, rows_text, tag_text, warning_text};
 use std::alloc::Global;
 
 /// Appends the line of a warning, and then a tag.
-pub fn warned_tag(
-    alloc: Global,
-    code: Code,
-    tag: Tag,
-    out: &mut Vec<u8>,
-) -> Result<(), NoMemory>
+pub fn warned_tag(alloc: Global, code: Code, tag: Tag, out: &mut Vec<u8>) -> Result<(), NoMemory>
     ensures { OnOk result (out.new.items ≡ out.old.items ++ (warning_line (record { code = code; args = [] }) ++ tag_line tag 0)) }
 {
     match refusal(alloc, code) {
@@ -80,12 +75,7 @@ fn append(bytes: &[u8], out: &mut Vec<u8>) -> Result<(), NoMemory>
 }
 
 /// Appends the names of columns and one value, as SHOW prints it.
-pub fn one_text(
-    alloc: Global,
-    name: &str,
-    value: &[u8],
-    out: &mut Vec<u8>,
-) -> Result<(), NoMemory>
+pub fn one_text(alloc: Global, name: &str, value: &[u8], out: &mut Vec<u8>) -> Result<(), NoMemory>
     ensures { OnOk result (out.new.items ≡ out.old.items ++ shown_lines name.now value.now) }
 {
     append(name.as_bytes(), out)?;

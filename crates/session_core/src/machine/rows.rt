@@ -28,9 +28,7 @@ impl Machine {
             Ok(changed) => {
                 let tag = tag_of(chosen.bound.as_ref());
                 let Changed { count, returned } = changed;
-                Ok(rows_and_tag(
-                    self.alloc, shape, &returned, tag, count, out,
-                )?)
+                Ok(rows_and_tag(self.alloc, shape, &returned, tag, count, out)?)
             }
             Err(stop) => {
                 self.undo_rows(mark);

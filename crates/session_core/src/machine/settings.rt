@@ -35,12 +35,7 @@ impl Machine {
         }
     }
 
-    fn reset_to(
-        &mut self,
-        name: &str,
-        value: &SetValue,
-        out: &mut Vec<u8>,
-    ) -> Result<(), Stop>
+    fn reset_to(&mut self, name: &str, value: &SetValue, out: &mut Vec<u8>) -> Result<(), Stop>
         ensures { Does (spec.ResetsTo self.old name.now value.now) out.old.items out.new.items self.new result }
     {
         match self.settings.set(name, value, false) {
@@ -90,12 +85,7 @@ impl Machine {
         self.show_with(name, &mut value, out)
     }
 
-    fn show_with(
-        &mut self,
-        name: &str,
-        value: &mut Vec<u8>,
-        out: &mut Vec<u8>,
-    ) -> Result<(), Stop>
+    fn show_with(&mut self, name: &str, value: &mut Vec<u8>, out: &mut Vec<u8>) -> Result<(), Stop>
         ensures { Does (spec.ShowsAfter self.old value.old.items name.now) out.old.items out.new.items self.new result }
     {
         match self.settings.text(name, value) {
