@@ -1,2 +1,3 @@
+mod Nowhere
 pub mod Entries
 pub mod Steps

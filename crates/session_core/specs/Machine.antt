@@ -26,6 +26,10 @@ Performs state (Reset name) = Resets state name
 Performs state (Show name) = Shows state name
 Performs state _ = Unstated
 
+abbrev pub is_prepare : Command → Bool
+is_prepare (Prepare tree) = true
+is_prepare _ = false
+
 -- the commands that a failed block lets pass
 abbrev pub passes : Command → Bool
 passes Commit = true

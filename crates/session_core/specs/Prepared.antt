@@ -83,6 +83,10 @@ prepared place statements tree =
 abbrev pub with_statement : State → List ℕ → Found → State
 with_statement state name found = record state { statements = state.statements ++ record { name = name; found = Some found } ∷ [] }
 
+-- the statement is kept
+abbrev pub Keeps : State → List ℕ → Found → Case
+Keeps state name found = Leads state (Ok (tag_line tag.Prepare 0, with_statement state name found))
+
 abbrev pub PreparesPlain : State → PrepareTree → Case
 PreparesPlain state tree outcome state2 = (place : Surroundings) ×
     Leads state (and_then (prepared place state.statements tree) (λ found. Ok (tag_line tag.Prepare 0, with_statement state tree.name found))) outcome state2

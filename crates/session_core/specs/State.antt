@@ -44,6 +44,10 @@ Leads state (Err error) outcome state2 = (outcome ≡ Err error) × (state2 ≡ 
 abbrev pub Prints : State → Result (List ℕ) SqlError → Case
 Prints state expected outcome state2 = (outcome ≡ expected) × (state2 ≡ state)
 
+-- a text was appended
+abbrev pub Appends : List ℕ → List ℕ → Type 0
+Appends before after = (text : List ℕ) × (after ≡ before ++ text)
+
 -- a call that appends its text to what was written, and appends nothing where it is refused, is such a case
 abbrev pub Does : Case → List ℕ → List ℕ → State → Result (Unit {0}) Stop → Type 0
 Does case before after state2 (Ok done) = (text : List ℕ) × (after ≡ before ++ text) × case (Ok text) state2

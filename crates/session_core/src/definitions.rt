@@ -200,14 +200,13 @@ impl Definitions {
         ensures { self.new ≡ self.old }
     {
         let env = env_of(&self.store, given);
-        let Some(kept) = self.statements.get_mut(name) else {
-            return Err(refusal_naming(self.alloc, Code::UnknownStatement, name));
-        };
-        match kept.source.ready(values, &env, &mut self.marks, work) {
-            Ok(ready) => Ok(ready),
-            Err(SourceStop::Sql(error)) => Err(Stop::Sql(error)),
-            Err(SourceStop::Changed { .. }) => { Err(refusal(self.alloc, Code::CachedPlanChanged)) }
-            Err(SourceStop::NoMemory) => Err(Stop::NoMemory),
+        match self
+            .statements
+            .ready(name, values, &env, &mut self.marks, work)
+        {
+            Some(Ok(ready)) => Ok(ready),
+            Some(Err(stop)) => Err(stop_of(self.alloc, stop)),
+            None => Err(refusal_naming(self.alloc, Code::UnknownStatement, name)),
         }
     }
 
@@ -257,6 +256,15 @@ fn copy_plain(alloc: Global, found: &Analysed) -> Result<Analysed, NoMemory> {
         params,
         result: found.result.copy(alloc)?,
     })
+}
+
+/// Why a use took no plan, as a refusal.
+fn stop_of(alloc: Global, stop: SourceStop) -> Stop {
+    match stop {
+        SourceStop::Sql(error) => Stop::Sql(error),
+        SourceStop::Changed { .. } => refusal(alloc, Code::CachedPlanChanged),
+        SourceStop::NoMemory => Stop::NoMemory,
+    }
 }
 
 fn retire_source(kept: Kept, marks: &mut Marks) {

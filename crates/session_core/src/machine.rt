@@ -1,8 +1,9 @@
 //! The session machine: what each command does to the session, and what it prints. A command is a method in the
 //! module of its family; a refusal leaves everything as it was but for what the method says.
 
-ghost use Rattle.std.specs.Prelude.{◌≡◌, Ok, IfOk, OnOk};
-ghost use Rattle.session_core.specs.State.{Does, empty_state, settled};
+ghost use Rattle.std.specs.Prelude.{◌≡◌, Ok, IfOk, OnOk, false};
+ghost use Rattle.savepoints.specs.Settings.{committed};
+ghost use Rattle.session_core.specs.State.{Does, Unstated, empty_state, settled};
 ghost use Rattle.session_core.specs.Machine as spec;
 ghost use Rattle.session_core.specs.Machine.{Stepped};
 
@@ -153,76 +154,118 @@ impl Machine {
         ensures { Does (spec.Runs self.old.block self.old command) out.old.items out.new.items self.new result }
     {
         match self.block.status() {
-            Block::Idle | Block::Active => self.dispatch(command, out, work),
-            Block::Failed => self.run_failed(command, out, work),
+            Block::Idle | Block::Active => self.run_any(command, out, work),
+            Block::Failed => {
+                let done = self.run_failed(&command, out, work);
+                drop(command);
+                done
+            }
         }
     }
 
     fn run_failed<L: Ledger>(
         &mut self,
+        command: &Command,
+        out: &mut Vec<u8>,
+        work: &mut Work<L>,
+    ) -> Result<(), Stop>
+        ensures { Does (spec.PassesTo (spec.passes command.now) self.old command.now) out.old.items out.new.items self.new result }
+    {
+        match command {
+            Command::Commit => self.commit(out, work),
+            Command::Rollback => self.rollback(out),
+            Command::RollbackTo(name) => self.rollback_to(name.as_str(), out),
+            Command::ShowPrepared => self.show_prepared(out),
+            Command::ShowCursors => self.show_cursors(out),
+            _ => Err(refusal(self.alloc, Code::FailedBlock)),
+        }
+    }
+
+    /// PREPARE keeps the tree of its statement; the others only look at theirs.
+    fn run_any<L: Ledger>(
+        &mut self,
         command: Command,
         out: &mut Vec<u8>,
         work: &mut Work<L>,
     ) -> Result<(), Stop>
-        ensures { Does (spec.PassesTo (spec.passes command) self.old command) out.old.items out.new.items self.new result }
+        ensures { Does (spec.Performs self.old command) out.old.items out.new.items self.new result }
     {
-        if passes(&command) {
-            self.dispatch(command, out, work)
-        } else {
-            drop(command);
-            Err(refusal(self.alloc, Code::FailedBlock))
+        match command {
+            Command::Prepare(tree) => self.prepare(tree, out, work),
+            other => {
+                let done = self.dispatch(&other, out, work);
+                drop(other);
+                done
+            }
         }
     }
 
     fn dispatch<L: Ledger>(
         &mut self,
-        command: Command,
+        command: &Command,
         out: &mut Vec<u8>,
         work: &mut Work<L>,
     ) -> Result<(), Stop>
-        ensures { Does (spec.Performs self.old command) out.old.items out.new.items self.new result }
+        requires { spec.is_prepare command.now ≡ false }
+        ensures { Does (spec.Performs self.old command.now) out.old.items out.new.items self.new result }
     {
         match command {
-            Command::Statement(tree) => self.statement(&tree, out, work),
-            Command::Prepare(tree) => self.prepare(tree, out, work),
-            Command::Execute(tree) => self.execute(&tree, out, work),
-            Command::Explain(tree) => self.explain(&tree, out, work),
-            Command::ExplainExecute(tree) => self.explain_execute(&tree, out, work),
+            Command::Statement(tree) => self.statement(tree, out, work),
+            Command::Execute(tree) => self.execute(tree, out, work),
+            Command::Set(tree) => self.set(tree, out),
+            Command::Reset(name) => self.reset(name.as_str(), out),
+            Command::Show(name) => self.show(name.as_str(), out),
+            Command::Prepare(_) => Err(Stop::NoMemory),
+            _ => self.dispatch_prepared(command, out, work),
+        }
+    }
+
+    fn dispatch_prepared<L: Ledger>(
+        &mut self,
+        command: &Command,
+        out: &mut Vec<u8>,
+        work: &mut Work<L>,
+    ) -> Result<(), Stop>
+        ensures { Does Unstated out.old.items out.new.items self.new result }
+    {
+        match command {
+            Command::Explain(tree) => self.explain(tree, out, work),
+            Command::ExplainExecute(tree) => self.explain_execute(tree, out, work),
             Command::Deallocate(name) => self.deallocate(name.as_str(), out),
             Command::DeallocateAll => self.deallocate_all(out),
             Command::DiscardPlans => self.discard_plans(out),
             Command::ShowPrepared => self.show_prepared(out),
-            other => self.dispatch_cursor(other, out, work),
+            _ => self.dispatch_cursor(command, out, work),
         }
     }
 
     fn dispatch_cursor<L: Ledger>(
         &mut self,
-        command: Command,
+        command: &Command,
         out: &mut Vec<u8>,
         work: &mut Work<L>,
     ) -> Result<(), Stop>
-        ensures { Does (spec.Performs self.old command) out.old.items out.new.items self.new result }
+        ensures { Does Unstated out.old.items out.new.items self.new result }
     {
         match command {
-            Command::Declare(tree) => self.declare(&tree, out, work),
-            Command::Fetch(tree) => self.fetch(&tree, out, work),
-            Command::Move(tree) => self.shift(&tree, out, work),
+            Command::Declare(tree) => self.declare(tree, out, work),
+            Command::Fetch(tree) => self.fetch(tree, out, work),
+            Command::Move(tree) => self.shift(tree, out, work),
             Command::Close(name) => self.close(name.as_str(), out),
             Command::CloseAll => self.close_all(out),
             Command::ShowCursors => self.show_cursors(out),
             Command::Commit => self.commit(out, work),
-            other => self.dispatch_block(other, out, work),
+            _ => self.dispatch_block(command, out, work),
         }
     }
 
     fn dispatch_block<L: Ledger>(
         &mut self,
-        command: Command,
+        command: &Command,
         out: &mut Vec<u8>,
         work: &mut Work<L>,
     ) -> Result<(), Stop>
-        ensures { Does (spec.Performs self.old command) out.old.items out.new.items self.new result }
+        ensures { Does Unstated out.old.items out.new.items self.new result }
     {
         match command {
             Command::Begin => self.begin(false, out),
@@ -231,34 +274,28 @@ impl Machine {
             Command::RollbackTo(name) => self.rollback_to(name.as_str(), out),
             Command::Savepoint(name) => self.savepoint(name, out),
             Command::Release(name) => self.release(name.as_str(), out),
-            Command::Set(tree) => self.set(&tree, out),
-            Command::Reset(name) => self.reset(name.as_str(), out),
-            Command::Show(name) => self.show(name.as_str(), out),
-            other => self.dispatch_catalog(other, out, work),
+            _ => self.dispatch_catalog(command, out, work),
         }
     }
 
     fn dispatch_catalog<L: Ledger>(
         &mut self,
-        command: Command,
+        command: &Command,
         out: &mut Vec<u8>,
         work: &mut Work<L>,
     ) -> Result<(), Stop>
-        ensures { Does (spec.Performs self.old command) out.old.items out.new.items self.new result }
+        ensures { Does Unstated out.old.items out.new.items self.new result }
     {
         match command {
-            Command::Schema(tree) => self.change_schema(&tree, out),
-            Command::CreateTable(tree) => self.create_table(&tree, out),
-            Command::CreateIndex(tree) => self.create_index(&tree, out),
-            Command::CreateView(tree) => self.create_view(&tree, out, work),
-            Command::Drop(tree) => self.drop_object(&tree, out),
-            Command::AlterTable(tree) => self.alter_table(&tree, out),
-            Command::Truncate(name) => self.truncate(&name, out),
-            Command::Analyze(name) => self.analyze(&name, out),
-            other => {
-                drop(other);
-                Err(refusal(self.alloc, Code::NotBuilt))
-            }
+            Command::Schema(tree) => self.change_schema(tree, out),
+            Command::CreateTable(tree) => self.create_table(tree, out),
+            Command::CreateIndex(tree) => self.create_index(tree, out),
+            Command::CreateView(tree) => self.create_view(tree, out, work),
+            Command::Drop(tree) => self.drop_object(tree, out),
+            Command::AlterTable(tree) => self.alter_table(tree, out),
+            Command::Truncate(name) => self.truncate(name, out),
+            Command::Analyze(name) => self.analyze(name, out),
+            _ => Err(refusal(self.alloc, Code::NotBuilt)),
         }
     }
 
@@ -320,16 +357,28 @@ impl Machine {
     fn settle(&mut self) -> Result<(), NoMemory>
         ensures { OnOk result (self.new ≡ settled self.old) }
     {
-        if self.block.status() != Block::Idle {
-            return Ok(());
+        match self.block.status() {
+            Block::Idle => self.settle_idle(),
+            Block::Active | Block::Failed => Ok(()),
         }
+    }
+
+    fn settle_idle(&mut self) -> Result<(), NoMemory>
+        ensures { OnOk result (self.new ≡ record self.old { settings = committed self.old.settings }) }
+    {
+        self.settle_catalog();
+        self.settings.commit();
+        self.stores.heaps.forget();
+        self.stores.prune(self.alloc)
+    }
+
+    fn settle_catalog(&mut self)
+        ensures { self.new ≡ self.old }
+    {
         if self.defined.has_changed() {
             drop_indexes(&mut self.stores, self.defined.catalog());
             self.defined.forget();
         }
-        self.settings.commit();
-        self.stores.heaps.forget();
-        self.stores.prune(self.alloc)
     }
 }
 
@@ -359,18 +408,4 @@ pub(crate) fn given_of(settings: &Settings) -> Given<'_> {
         mode: settings.mode(),
         switches: settings.switches(),
     }
-}
-
-/// Tells whether a failed block lets the command pass.
-fn passes(command: &Command) -> bool
-    ensures { result ≡ spec.passes command.now }
-{
-    matches!(
-        command,
-        Command::Commit
-            | Command::Rollback
-            | Command::RollbackTo(_)
-            | Command::ShowPrepared
-            | Command::ShowCursors
-    )
 }

@@ -5,10 +5,13 @@ ghost use Rattle.session_core.specs.Seen.{found_in};
 
 use analyzer::Analysed;
 use indexmap::IndexMap;
-use plan_source::CachedSource;
-use q_base::{NoMemory, Str};
+use plan_invalid::Marks;
+use plan_source::{CachedSource, Env, Ready, SourceStop};
+use q_base::{NoMemory, Str, Work};
+use q_value::Value;
 use std::alloc::Global;
 use std::marker::Model;
+use std::sync::ledger::Ledger;
 
 /// A prepared statement.
 #[derive(Drop)]
@@ -62,8 +65,24 @@ impl Statements {
         self.by_name.get(name)
     }
 
-    pub fn get_mut(&mut self, name: &str) -> Option<&mut Kept> {
-        self.by_name.get_mut(name)
+    /// One use of the statement of a name; `None` exactly where there is none.
+    pub fn ready<L: Ledger>(
+        &mut self,
+        name: &str,
+        values: &[Value],
+        env: &Env<'_>,
+        marks: &mut Marks,
+        work: &mut Work<L>,
+    ) -> Option<Result<Ready, SourceStop>>
+        ensures { self.new ≡ self.old }
+    {
+        let Some(at) = self.by_name.get_index_of(name) else {
+            return None;
+        };
+        let Some(kept) = self.by_name.get_index_mut(at) else {
+            return None;
+        };
+        Some(kept.source.ready(values, env, marks, work))
     }
 
     /// The name and the statement at a place in order of making.

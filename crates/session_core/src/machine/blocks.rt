@@ -4,7 +4,7 @@
 ghost use Rattle.session_core.specs.State.{Does, Unstated};
 
 use super::Machine;
-use crate::printed::warn;
+use crate::printed::warned_tag;
 use q_base::{Code, Stop, Str, Work, refusal_naming};
 use result_text::{Tag, tag_text};
 use savepoints::Block;
@@ -16,15 +16,12 @@ impl Machine {
         ensures { Does Unstated out.old.items out.new.items self.new result }
     {
         let mark = self.mark();
-        if !self.block.begin(mark) {
-            warn(self.alloc, Code::AlreadyInTransaction, out)?;
-        }
-        let tag = if start {
-            Tag::StartTransaction
+        if self.block.begin(mark) {
+            Ok(tag_text(self.alloc, begin_tag(start), 0, out)?)
         } else {
-            Tag::Begin
-        };
-        Ok(tag_text(self.alloc, tag, 0, out)?)
+            let code = Code::AlreadyInTransaction;
+            Ok(warned_tag(self.alloc, code, begin_tag(start), out)?)
+        }
     }
 
     /// COMMIT and END. Outside a block it warns, 25P01; a failed block is rolled back. The rows of cursors WITH HOLD
@@ -38,20 +35,32 @@ impl Machine {
     {
         match self.block.status() {
             Block::Idle => {
-                warn(self.alloc, Code::NoTransaction, out)?;
-                Ok(tag_text(self.alloc, Tag::Commit, 0, out)?)
+                let code = Code::NoTransaction;
+                Ok(warned_tag(self.alloc, code, Tag::Commit, out)?)
             }
             Block::Failed => {
                 self.abandon();
                 Ok(tag_text(self.alloc, Tag::Rollback, 0, out)?)
             }
-            Block::Active => {
-                if let Err(stop) = self.cursors.hold_all(&mut self.stores, work) {
-                    self.abandon();
-                    return Err(stop);
-                }
+            Block::Active => self.commit_active(out, work),
+        }
+    }
+
+    fn commit_active<L: Ledger>(
+        &mut self,
+        out: &mut Vec<u8>,
+        work: &mut Work<L>,
+    ) -> Result<(), Stop>
+        ensures { Does Unstated out.old.items out.new.items self.new result }
+    {
+        match self.cursors.hold_all(&mut self.stores, work) {
+            Ok(()) => {
                 let _ = self.block.finish();
                 Ok(tag_text(self.alloc, Tag::Commit, 0, out)?)
+            }
+            Err(stop) => {
+                self.abandon();
+                Err(stop)
             }
         }
     }
@@ -61,11 +70,12 @@ impl Machine {
         ensures { Does Unstated out.old.items out.new.items self.new result }
     {
         if self.block.status() == Block::Idle {
-            warn(self.alloc, Code::NoTransaction, out)?;
+            let code = Code::NoTransaction;
+            Ok(warned_tag(self.alloc, code, Tag::Rollback, out)?)
         } else {
             self.abandon();
+            Ok(tag_text(self.alloc, Tag::Rollback, 0, out)?)
         }
-        Ok(tag_text(self.alloc, Tag::Rollback, 0, out)?)
     }
 
     /// Takes back the block, with its cursors.
@@ -77,10 +87,11 @@ impl Machine {
     }
 
     /// SAVEPOINT. 25P01 outside a block, 54000 at 1,024.
-    pub(crate) fn savepoint(&mut self, name: Str, out: &mut Vec<u8>) -> Result<(), Stop>
+    pub(crate) fn savepoint(&mut self, name: &Str, out: &mut Vec<u8>) -> Result<(), Stop>
         ensures { Does Unstated out.old.items out.new.items self.new result }
     {
         let mark = self.mark();
+        let name = name.copy(self.alloc)?;
         self.block.savepoint(name, mark)?;
         Ok(tag_text(self.alloc, Tag::Savepoint, 0, out)?)
     }
@@ -108,5 +119,13 @@ impl Machine {
         self.cursors.end_level(level, &mut self.stores);
         self.return_to(mark);
         Ok(tag_text(self.alloc, Tag::Rollback, 0, out)?)
+    }
+}
+
+fn begin_tag(start: bool) -> Tag {
+    if start {
+        Tag::StartTransaction
+    } else {
+        Tag::Begin
     }
 }

@@ -93,10 +93,10 @@ impl Machine {
     {
         let name = tree.cursor.as_str();
         let rows = self.cursors.fetch(name, tree.motion, &self.stores, work)?;
-        if let Some(result) = self.cursors.result(name) {
-            rows_text(self.alloc, result, &rows, out)?;
+        match self.cursors.result(name) {
+            Some(result) => Ok(rows_text(self.alloc, result, &rows, out)?),
+            None => Ok(()),
         }
-        Ok(())
     }
 
     /// MOVE: as FETCH, and prints how many rows that gives.

@@ -1,7 +1,7 @@
 //! Prepared statements: PREPARE, EXECUTE, EXPLAIN EXECUTE, DEALLOCATE and DISCARD PLANS.
 
 ghost use Rattle.std.specs.Prelude.{◌≡◌, None, IfOk};
-ghost use Rattle.analyzer.specs.Statements.{AnalysedAs, Surroundings};
+ghost use Rattle.analyzer.specs.Statements.{AnalysedAs, Surroundings, seen};
 ghost use Rattle.q_value.specs.Answers.{Answers};
 ghost use Rattle.session_core.specs.State.{Does, Unstated};
 ghost use Rattle.session_core.specs.Prepared as spec;
@@ -12,10 +12,10 @@ use crate::machine::queries::{is_plain, plain_rows};
 use crate::printed::plan_lines;
 use analyzer::{Analysed, analyse_args, declared_types};
 use plan_source::Ready;
-use q_base::{Code, Stop, Work, refusal_naming};
+use q_base::{Code, Stop, Str, Work, refusal_naming};
 use q_value::{Row, TypeList, Value};
 use result_text::{Tag, rows_text, tag_text};
-use sql_tree::{ExecuteTree, PrepareTree};
+use sql_tree::{ExecuteTree, PrepareTree, Statement};
 use std::alloc::Global;
 use std::rc::Rc;
 use std::sync::ledger::Ledger;
@@ -47,13 +47,52 @@ impl Machine {
     ) -> Result<(), Stop>
         ensures { Does (spec.PreparesPlain self.old tree) out.old.items out.new.items self.new result }
     {
-        let found = self.found_plain(&tree, work)?;
+        match self.found_plain(&tree, work) {
+            Ok(found) => self.keep_found(tree, found, out),
+            Err(stop) => {
+                drop(tree);
+                Err(stop)
+            }
+        }
+    }
+
+    /// Keeps such a statement under a name that none has.
+    fn keep_found(
+        &mut self,
+        tree: PrepareTree,
+        found: Analysed,
+        out: &mut Vec<u8>,
+    ) -> Result<(), Stop>
+        requires { spec.kept self.old.statements tree.name ≡ None }
+        ensures { Does (spec.Keeps self.old tree.name (seen found)) out.old.items out.new.items self.new result }
+    {
         let PrepareTree {
             name,
+            types,
             statement,
-            ..
         } = tree;
-        let statement = Rc::new(self.alloc, statement)?;
+        drop(types);
+        match Rc::new(self.alloc, statement) {
+            Ok(statement) => self.keep_shared(name, statement, found, out),
+            Err(failed) => {
+                drop(failed);
+                drop(found);
+                drop(name);
+                Err(Stop::NoMemory)
+            }
+        }
+    }
+
+    fn keep_shared(
+        &mut self,
+        name: Str,
+        statement: Rc<Statement>,
+        found: Analysed,
+        out: &mut Vec<u8>,
+    ) -> Result<(), Stop>
+        requires { spec.kept self.old.statements name ≡ None }
+        ensures { Does (spec.Keeps self.old name (seen found)) out.old.items out.new.items self.new result }
+    {
         let given = given_of(&self.settings);
         self.defined.keep_plain(name, statement, found, given)?;
         Ok(tag_text(self.alloc, Tag::Prepare, 0, out)?)
@@ -84,16 +123,53 @@ impl Machine {
     ) -> Result<(), Stop>
         ensures { Does Unstated out.old.items out.new.items self.new result }
     {
-        let types = declared_types(self.alloc, tree.types.as_slice())?;
+        match declared_types(self.alloc, tree.types.as_slice()) {
+            Ok(types) => self.prepare_typed(tree, &types, out, work),
+            Err(stop) => {
+                drop(tree);
+                Err(stop)
+            }
+        }
+    }
+
+    fn prepare_typed<L: Ledger>(
+        &mut self,
+        tree: PrepareTree,
+        kinds: &TypeList,
+        out: &mut Vec<u8>,
+        work: &mut Work<L>,
+    ) -> Result<(), Stop>
+        ensures { Does Unstated out.old.items out.new.items self.new result }
+    {
         let PrepareTree {
             name,
+            types,
             statement,
-            ..
         } = tree;
-        let statement = Rc::new(self.alloc, statement)?;
+        drop(types);
+        match Rc::new(self.alloc, statement) {
+            Ok(statement) => self.prepare_shared(name, statement, kinds, out, work),
+            Err(failed) => {
+                drop(failed);
+                drop(name);
+                Err(Stop::NoMemory)
+            }
+        }
+    }
+
+    fn prepare_shared<L: Ledger>(
+        &mut self,
+        name: Str,
+        statement: Rc<Statement>,
+        kinds: &TypeList,
+        out: &mut Vec<u8>,
+        work: &mut Work<L>,
+    ) -> Result<(), Stop>
+        ensures { Does Unstated out.old.items out.new.items self.new result }
+    {
         let given = given_of(&self.settings);
         self.defined
-            .prepare(name, statement, types.as_slice(), given, work)?;
+            .prepare(name, statement, kinds.as_slice(), given, work)?;
         Ok(tag_text(self.alloc, Tag::Prepare, 0, out)?)
     }
 

@@ -98,16 +98,17 @@ impl Machine {
     ) -> Result<Analysed, Stop>
         ensures { (place : Surroundings) × AnalysedAs (statement place (option_copied declared.entry) tree.now) result }
     {
-        let path = self.path()?;
-        let catalog = self.defined.catalog();
-        analyse(
-            self.alloc,
-            tree,
-            Names::Path(&path),
-            catalog,
-            declared,
-            work,
-        )
+        match self.path() {
+            Ok(path) => analyse(
+                self.alloc,
+                tree,
+                Names::Path(&path),
+                self.defined.catalog(),
+                declared,
+                work,
+            ),
+            Err(NoMemory) => Err(Stop::NoMemory),
+        }
     }
 
     /// What the analysis of a statement finds by the search path of now.

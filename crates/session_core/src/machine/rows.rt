@@ -3,12 +3,13 @@
 ghost use Rattle.session_core.specs.State.{Does, Unstated};
 
 use super::Machine;
+use crate::printed::rows_and_tag;
 use dml::{Changed, delete_slots, insert_rows, update_slots};
 use plan_tree::Plan;
 use q_base::Stop;
 use q_value::Value;
 use query_tree::{Bound, ResultType};
-use result_text::{Tag, rows_text, tag_text};
+use result_text::Tag;
 
 impl Machine {
     /// Changes the rows of a table by a plan, and prints what RETURNING gives and how many rows were changed. Of a
@@ -25,14 +26,9 @@ impl Machine {
         let mark = self.stores.heaps.mark();
         match self.changed(chosen, params) {
             Ok(changed) => {
-                rows_text(self.alloc, shape, &changed.returned, out)?;
-                tag_text(
-                    self.alloc,
-                    tag_of(chosen.bound.as_ref()),
-                    changed.count,
-                    out,
-                )?;
-                Ok(())
+                let tag = tag_of(chosen.bound.as_ref());
+                let Changed { count, returned } = changed;
+                Ok(rows_and_tag(self.alloc, shape, &returned, tag, count, out)?)
             }
             Err(stop) => {
                 self.undo_rows(mark);
