@@ -1,5 +1,5 @@
 -- Columns that ALTER TABLE changes.
-use Rattle.std.specs.Prelude.{◌==◌, Bool, Option, None, Some, Result, Ok, Err, List, [], ◌∷◌, if◌then◌else◌}
+use Rattle.std.specs.Prelude.{◌==◌, Bool, Option, None, Some, Result, Ok, List, [], ◌∷◌, if◌then◌else◌}
 use Rattle.q_base.specs.declared.errors.SqlError.{SqlError}
 use Rattle.q_base.specs.declared.ids.ColId.{ColId}
 use Rattle.q_value.specs.declared.value.SqlType.{SqlType}

@@ -1,9 +1,8 @@
 -- Defaults of columns.
-use Rattle.std.specs.Prelude.{ℤ, Bool, Option, None, Some, Result, Ok, Err, if◌then◌else◌}
+use Rattle.std.specs.Prelude.{ℤ, Option, None, Some, Result, Ok, Err, if◌then◌else◌}
 use Rattle.q_base.specs.declared.code.Code.TheVariants.{ColumnTypeMismatch, BigintOutOfRange}
 use Rattle.q_base.specs.declared.errors.SqlError.{SqlError}
 use Rattle.q_value.specs.declared.value.SqlType.{SqlType}
-use Rattle.q_value.specs.declared.value.SqlType.TheVariants as kind
 use Rattle.q_value.specs.declared.value.Value.{Value}
 use Rattle.q_value.specs.declared.value.Value.TheVariants as value
 use Rattle.q_value.specs.Values.{type_name, kind_of}

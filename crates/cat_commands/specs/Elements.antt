@@ -1,5 +1,5 @@
 -- What stands between the parentheses of CREATE TABLE.
-use Rattle.std.specs.Prelude.{ℕ, ◌+◌, ◌-◌, ◌^◌, min, Bool, true, false, ◌||◌, Result, Ok, Err, List, [], ◌∷◌, ◌++◌, length, if◌then◌else◌}
+use Rattle.std.specs.Prelude.{ℕ, ◌-◌, ◌^◌, min, Bool, true, false, ◌||◌, Result, Ok, List, [], ◌∷◌, ◌++◌, length}
 use Rattle.q_base.specs.declared.errors.SqlError.{SqlError}
 use Rattle.q_base.specs.declared.ids.ColId.{ColId}
 use Rattle.sql_tree.specs.declared.catalog.ColumnDef.{ColumnDef}

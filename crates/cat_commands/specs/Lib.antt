@@ -1,3 +1,7 @@
+pub mod Alter
+pub mod AlterColumns
+pub mod Alterations
+pub mod Analyze
 pub mod Columns
 pub mod Defaults
 pub mod Drops

@@ -1,5 +1,8 @@
 -- Changes by what they mean: an entry is put by its value.
-use Rattle.std.specs.Prelude.{List, [], ◌∷◌, ◌++◌, map}
+use Rattle.std.specs.Prelude.{◌≡◌, Result, Ok, Err, List, [], ◌∷◌, ◌++◌, map}
+use Rattle.q_base.specs.declared.errors.SqlError.{SqlError}
+use Rattle.q_base.specs.declared.errors.Stop.{Stop}
+use Rattle.q_base.specs.declared.errors.Stop.TheVariants.{Sql, NoMemory}
 use Rattle.q_base.specs.declared.ids.ObjId.{ObjId}
 use Rattle.q_base.specs.declared.ids.SchemaId.{SchemaId}
 use Rattle.cat_names.specs.declared.rows.SchemaRow.{SchemaRow}
@@ -42,3 +45,12 @@ put id schema name def = Puts (entry id schema name def)
 
 abbrev pub put_touched : ObjId → SchemaId → Text → Def → List Step
 put_touched id schema name def = put id schema name def ∷ Touches id ∷ []
+
+abbrev pub Outcome : Type 0
+Outcome = Result (List Step) SqlError
+
+-- a call gives these changes or this refusal, or stops for want of memory
+abbrev pub Gives : Outcome → Result (List Change) Stop → Type 0
+Gives expected (Ok changes) = expected ≡ Ok (steps changes)
+Gives expected (Err (Sql error)) = expected ≡ Err error
+Gives expected (Err NoMemory) = Unit {0}

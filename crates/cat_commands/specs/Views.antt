@@ -12,7 +12,7 @@ use Rattle.q_value.specs.contracts.value.SqlType as sql_type
 use Rattle.query_tree.specs.declared.result.ResultColumn.{ResultColumn}
 use Rattle.query_tree.specs.declared.result.ResultType.{ResultType}
 use Rattle.cat_core.specs.declared.entry.Def.{Def}
-use Rattle.cat_commands.specs.Names.{Text, Checked, unrepeated, go_on, plain}
+use Rattle.cat_commands.specs.Names.{Text, unrepeated, go_on, plain}
 use Rattle.cat_commands.specs.Steps.{Step, put_touched}
 
 abbrev pub columns_from : Option (List ResultColumn) → List ResultColumn

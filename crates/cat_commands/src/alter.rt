@@ -1,3 +1,10 @@
+ghost use Rattle.std.specs.Prelude.{◌≡◌, ◌++◌, IfOk};
+ghost use Rattle.q_value.specs.Answers.{Answers};
+ghost use Rattle.cat_core.specs.Finding.{entries};
+ghost use Rattle.cat_commands.specs.Alter as spec;
+ghost use Rattle.cat_commands.specs.Alterations.{Alters, seen, put_table as table_put};
+ghost use Rattle.cat_commands.specs.Steps.{step, steps, Gives};
+
 use crate::alter_columns::{
     add_column, drop_column, drop_not_null, rename_column, set_default, set_not_null, set_type,
 };
@@ -48,6 +55,7 @@ pub struct Altered {
 /// - DROP NOT NULL: 42703; 42P16 for a column of the primary key.
 ///
 /// What is found in the stored rows comes after all of these.
+#[tactic(auto, unfolding(crate::specs::Alter::altered))]
 pub fn alter_table(
     alloc: Global,
     catalog: &Catalog,
@@ -55,7 +63,9 @@ pub fn alter_table(
     tree: &AlterTree,
     in_use: bool,
     column_used: bool,
-) -> Result<Altered, Stop> {
+) -> Result<Altered, Stop>
+    ensures { Alters (spec.altered catalog.now path.now tree.now in_use column_used) result }
+{
     let id = find_table(alloc, catalog, path, &tree.table)?;
     if in_use && !is_free(&tree.action) {
         return Err(used_actively(alloc, "ALTER TABLE", &tree.table));
@@ -67,7 +77,9 @@ pub fn alter_table(
 }
 
 /// Tells whether the action is also done to a table in use.
-fn is_free(action: &AlterAction) -> bool {
+fn is_free(action: &AlterAction) -> bool
+    ensures { result ≡ spec.is_free action.now }
+{
     match action {
         AlterAction::RenameColumn(_, _) | AlterAction::RenameTo(_) | AlterAction::SetSchema(_) => {
             true
@@ -88,7 +100,9 @@ fn alter_entry(
     entry: &Entry,
     tree: &AlterTree,
     column_used: bool,
-) -> Result<Altered, Stop> {
+) -> Result<Altered, Stop>
+    ensures { Alters (spec.def_altered catalog.now entry.now tree.now column_used entry.now.def) result }
+{
     match &entry.def {
         Def::Table(table) => do_action(alloc, catalog, entry, table, tree, column_used),
         Def::View(_) | Def::Index(_) => Err(refusal_of(alloc, Code::NotATable, &tree.table)),
@@ -102,7 +116,9 @@ fn do_action(
     table: &TableDef,
     tree: &AlterTree,
     column_used: bool,
-) -> Result<Altered, Stop> {
+) -> Result<Altered, Stop>
+    ensures { Alters (spec.action_done catalog.now entry.now table.now tree.now.table column_used tree.now.action) result }
+{
     let written = &tree.table;
     match &tree.action {
         AlterAction::AddColumn(column) => add_column(alloc, entry, table, written, column),
@@ -136,14 +152,18 @@ pub(crate) fn put_table(
     entry: &Entry,
     table: TableDef,
     rows: RowWork,
-) -> Result<Altered, NoMemory> {
+) -> Result<Altered, NoMemory>
+    ensures { IfOk result (λ altered. seen altered ≡ table_put entry.now table rows) }
+{
     let name = entry.name.as_str();
     let changes = put_touched(alloc, entry.id, entry.schema, name, Def::Table(table))?;
     Ok(Altered { rows, changes })
 }
 
 /// A second owner of the same definition.
-fn copy_table(alloc: Global, table: &TableDef) -> Result<TableDef, NoMemory> {
+fn copy_table(alloc: Global, table: &TableDef) -> Result<TableDef, NoMemory>
+    ensures { IfOk result (λ copy. copy ≡ table.now) }
+{
     let columns = table.columns.copy(alloc)?;
     let stats = copy_stats(alloc, &table.stats)?;
     Ok(TableDef {
@@ -159,7 +179,9 @@ fn rename_to(
     entry: &Entry,
     table: &TableDef,
     new: &Str,
-) -> Result<Altered, Stop> {
+) -> Result<Altered, Stop>
+    ensures { Alters (spec.renamed catalog.now entry.now table.now new.now) result }
+{
     check_free(alloc, catalog.names(), entry.schema, new.as_str())?;
     let def = Def::Table(copy_table(alloc, table)?);
     let changes = put_touched(alloc, entry.id, entry.schema, new.as_str(), def)?;
@@ -175,7 +197,9 @@ fn set_schema(
     entry: &Entry,
     table: &TableDef,
     schema: &Str,
-) -> Result<Altered, Stop> {
+) -> Result<Altered, Stop>
+    ensures { Alters (spec.schema_set catalog.now entry.now table.now schema.now) result }
+{
     let schema = schema_known(alloc, catalog.schemas(), schema.as_str())?;
     let changes = moved(alloc, catalog, entry, table, schema)?;
     Ok(Altered {
@@ -185,13 +209,16 @@ fn set_schema(
 }
 
 /// The table and its indexes in another schema, where their names must be free; in its own schema it is only touched.
+#[tactic(auto, unfolding(crate::specs::Alter::moved))]
 fn moved(
     alloc: Global,
     catalog: &Catalog,
     entry: &Entry,
     table: &TableDef,
     schema: SchemaId,
-) -> Result<Changes, Stop> {
+) -> Result<Changes, Stop>
+    ensures { Gives (spec.moved catalog.now entry.now table.now schema) result }
+{
     if schema.0 == entry.schema.0 {
         return Ok(one(alloc, Change::Touch(entry.id))?);
     }
@@ -206,7 +233,9 @@ fn check_all_free(
     names: &[NameRow],
     schema: SchemaId,
     indexes: &[Rc<Entry>],
-) -> Result<(), Stop> {
+) -> Result<(), Stop>
+    ensures { Answers (spec.all_free names.now schema (entries indexes.now)) result }
+{
     for index in indexes {
         check_free(alloc, names, schema, index.name.as_str())?;
     }
@@ -219,7 +248,9 @@ fn moved_entries(
     table: &TableDef,
     schema: SchemaId,
     indexes: &[Rc<Entry>],
-) -> Result<Changes, NoMemory> {
+) -> Result<Changes, NoMemory>
+    ensures { IfOk result (λ changes. steps changes ≡ spec.moved_entries entry.now table.now schema (entries indexes.now)) }
+{
     let def = Def::Table(copy_table(alloc, table)?);
     let table = one(
         alloc,
@@ -236,7 +267,9 @@ fn moved_indexes(
     changes: Changes,
     schema: SchemaId,
     indexes: &[Rc<Entry>],
-) -> Result<Changes, NoMemory> {
+) -> Result<Changes, NoMemory>
+    ensures { IfOk result (λ all. steps all ≡ steps changes ++ spec.moved_indexes schema (entries indexes.now)) }
+{
     let mut all = changes;
     for index in indexes {
         if let Def::Index(def) = &index.def {
@@ -251,12 +284,16 @@ fn moved_index(
     entry: &Entry,
     index: &IndexDef,
     schema: SchemaId,
-) -> Result<Change, NoMemory> {
+) -> Result<Change, NoMemory>
+    ensures { IfOk result (λ change. step change ≡ spec.moved_one schema entry.now index.now) }
+{
     let def = Def::Index(copy_index(alloc, index)?);
     put(alloc, entry.id, schema, entry.name.as_str(), def)
 }
 
-fn copy_index(alloc: Global, index: &IndexDef) -> Result<IndexDef, NoMemory> {
+fn copy_index(alloc: Global, index: &IndexDef) -> Result<IndexDef, NoMemory>
+    ensures { IfOk result (λ copy. copy ≡ index.now) }
+{
     let mut columns = ListOf::new(alloc);
     for column in index.columns.as_slice() {
         columns.push(*column)?;

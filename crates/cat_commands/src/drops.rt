@@ -1,6 +1,8 @@
-ghost use Rattle.std.specs.Prelude.{◌≡◌, IfOk};
+ghost use Rattle.std.specs.Prelude.{◌≡◌, ◌++◌, IfOk};
+ghost use Rattle.q_value.specs.Answers.{Answers};
+ghost use Rattle.cat_core.specs.Finding.{entries, indexes_of};
 ghost use Rattle.cat_commands.specs.Drops as spec;
-ghost use Rattle.cat_commands.specs.Steps.{steps};
+ghost use Rattle.cat_commands.specs.Steps.{steps, Gives};
 
 use crate::entries::{one, then};
 use crate::refusals::refusal_naming_in;
@@ -26,7 +28,9 @@ pub fn drop_object(
     tree: &DropTree,
     dependents: &IdList,
     in_use: bool,
-) -> Result<Changes, Stop> {
+) -> Result<Changes, Stop>
+    ensures { Gives (spec.object_dropped catalog.now id tree.now dependents.now in_use) result }
+{
     let Some(entry) = catalog.entry(id) else {
         return Err(refusal_of(alloc, Code::UnknownRelation, &tree.name));
     };
@@ -56,21 +60,27 @@ fn check_dependents(
     tree: &DropTree,
     kind: &str,
     dependents: &IdList,
-) -> Result<(), Stop> {
+) -> Result<(), Stop>
+    ensures { Answers (spec.independent tree.now kind.now dependents.now) result }
+{
     if !tree.cascade && !dependents.as_slice().is_empty() {
         return Err(refusal_naming_in(alloc, Code::ObjectHasDependents, kind, &tree.name));
     }
     Ok(())
 }
 
-fn check_unused(alloc: Global, tree: &DropTree, command: &str, in_use: bool) -> Result<(), Stop> {
+fn check_unused(alloc: Global, tree: &DropTree, command: &str, in_use: bool) -> Result<(), Stop>
+    ensures { Answers (spec.unused tree.now command.now in_use) result }
+{
     if in_use {
         return Err(used_actively(alloc, command, &tree.name));
     }
     Ok(())
 }
 
-fn check_constraint(alloc: Global, tree: &DropTree, index: &IndexDef) -> Result<(), Stop> {
+fn check_constraint(alloc: Global, tree: &DropTree, index: &IndexDef) -> Result<(), Stop>
+    ensures { Answers (spec.unconstrained tree.now index.now) result }
+{
     if index.of_constraint {
         return Err(refusal_of(alloc, Code::IndexOfConstraint, &tree.name));
     }
@@ -101,7 +111,9 @@ fn drop_table(
     catalog: &Catalog,
     id: ObjId,
     dependents: &IdList,
-) -> Result<Changes, NoMemory> {
+) -> Result<Changes, NoMemory>
+    ensures { IfOk result (λ changes. steps changes ≡ spec.drop_table id dependents.now (indexes_of id catalog.now.slots)) }
+{
     let indexes = catalog.indexes_of(alloc, id)?;
     let views = drop_each(alloc, dependents.as_slice())?;
     then(
@@ -110,7 +122,9 @@ fn drop_table(
     )
 }
 
-fn drop_indexes(changes: Changes, indexes: &[Rc<Entry>]) -> Result<Changes, NoMemory> {
+fn drop_indexes(changes: Changes, indexes: &[Rc<Entry>]) -> Result<Changes, NoMemory>
+    ensures { IfOk result (λ all. steps all ≡ steps changes ++ spec.drops_of (entries indexes.now)) }
+{
     let mut all = changes;
     for index in indexes {
         all.push(Change::DropEntry(index.id))?;

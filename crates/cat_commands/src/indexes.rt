@@ -1,5 +1,7 @@
 ghost use Rattle.std.specs.Prelude.{◌≡◌, ◌++◌, IfOk, OnOk};
+ghost use Rattle.q_value.specs.Answers.{Answers};
 ghost use Rattle.cat_commands.specs.Indexes as spec;
+ghost use Rattle.cat_commands.specs.Steps.{steps, Gives};
 
 use crate::entries::{one, put, then};
 use crate::keys::{check_columns, is_primary};
@@ -19,13 +21,16 @@ use std::alloc::Global;
 /// Refused, in this order, as 42P01 and 42809 for the table's name, 55006 where the table is in use, 42P07 where the
 /// index's name is taken, 42703 and 42701 for its columns, 54000 with over 8 of them, and as 54000 past 65,536 objects and
 /// schemas. That stored rows break a unique index (23505) is found where it is filled, after all of these.
+#[tactic(auto, unfolding(crate::specs::Indexes::created))]
 pub fn create_index(
     alloc: Global,
     catalog: &Catalog,
     path: &SchemaList,
     tree: &IndexTree,
     in_use: bool,
-) -> Result<Changes, Stop> {
+) -> Result<Changes, Stop>
+    ensures { Gives (spec.created catalog.now path.now tree.now in_use) result }
+{
     let id = find_table(alloc, catalog, path, &tree.table)?;
     if in_use {
         return Err(used_actively(alloc, "CREATE INDEX", &tree.table));
@@ -36,12 +41,15 @@ pub fn create_index(
     }
 }
 
+#[tactic(auto, unfolding(crate::specs::Indexes::created_on))]
 fn index_on(
     alloc: Global,
     catalog: &Catalog,
     table: &Entry,
     tree: &IndexTree,
-) -> Result<Changes, Stop> {
+) -> Result<Changes, Stop>
+    ensures { Gives (spec.created_on catalog.now table.now tree.now) result }
+{
     check_free(alloc, catalog.names(), table.schema, tree.name.as_str())?;
     check_listed(alloc, tree.columns.as_slice(), table.columns())?;
     let id = room_for(alloc, catalog.next_id(), 1)?;
@@ -49,7 +57,10 @@ fn index_on(
 }
 
 /// The columns of an index: 42703, 42701, and 54000 with over 8 of them.
-fn check_listed(alloc: Global, names: &[Str], columns: &[Column]) -> Result<(), Stop> {
+#[tactic(auto, unfolding(crate::specs::Indexes::listed))]
+fn check_listed(alloc: Global, names: &[Str], columns: &[Column]) -> Result<(), Stop>
+    ensures { Answers (spec.listed names.now columns.now) result }
+{
     let known = column_names(alloc, columns)?;
     check_columns(alloc, names, known.as_slice())?;
     check_unrepeated(alloc, names)?;
@@ -66,12 +77,9 @@ fn column_names(alloc: Global, columns: &[Column]) -> Result<NameList, NoMemory>
     Ok(names)
 }
 
-fn put_index(
-    alloc: Global,
-    id: ObjId,
-    table: &Entry,
-    tree: &IndexTree,
-) -> Result<Changes, NoMemory> {
+fn put_index(alloc: Global, id: ObjId, table: &Entry, tree: &IndexTree) -> Result<Changes, NoMemory>
+    ensures { IfOk result (λ changes. steps changes ≡ spec.put_index id table.now tree.now) }
+{
     let def = IndexDef {
         table: table.id,
         columns: column_ids(alloc, tree.columns.as_slice(), table.columns())?,

@@ -1,7 +1,7 @@
 ghost use Rattle.std.specs.Prelude.{◌≡◌, IfOk};
 ghost use Rattle.q_value.specs.Answers.{Answers};
 ghost use Rattle.cat_commands.specs.Schemas as spec;
-ghost use Rattle.cat_commands.specs.Steps.{steps};
+ghost use Rattle.cat_commands.specs.Steps.{steps, Gives};
 
 use crate::entries::{one, then};
 use crate::limits::room_for;
@@ -21,7 +21,9 @@ pub fn schema_changes(
     alloc: Global,
     catalog: &Catalog,
     command: &SchemaCommand,
-) -> Result<Changes, Stop> {
+) -> Result<Changes, Stop>
+    ensures { Gives (spec.schema_changes catalog.now command.now) result }
+{
     match command {
         SchemaCommand::Create(name) => create_schema(alloc, catalog, name),
         SchemaCommand::Rename(name, new) => rename_schema(alloc, catalog, name.as_str(), new),
@@ -29,21 +31,30 @@ pub fn schema_changes(
     }
 }
 
-fn create_schema(alloc: Global, catalog: &Catalog, name: &Str) -> Result<Changes, Stop> {
+#[tactic(auto, unfolding(crate::specs::Schemas::created))]
+fn create_schema(alloc: Global, catalog: &Catalog, name: &Str) -> Result<Changes, Stop>
+    ensures { Gives (spec.created catalog.now name.now) result }
+{
     check_acceptable(alloc, name.as_str())?;
     check_new(alloc, catalog.schemas(), name.as_str())?;
     let id = room_for(alloc, catalog.next_id(), 1)?;
     Ok(put_schema(alloc, SchemaId(id), name)?)
 }
 
-fn rename_schema(alloc: Global, catalog: &Catalog, name: &str, new: &Str) -> Result<Changes, Stop> {
+#[tactic(auto, unfolding(crate::specs::Schemas::renamed))]
+fn rename_schema(alloc: Global, catalog: &Catalog, name: &str, new: &Str) -> Result<Changes, Stop>
+    ensures { Gives (spec.renamed catalog.now name.now new.now) result }
+{
     let id = schema_known(alloc, catalog.schemas(), name)?;
     check_new(alloc, catalog.schemas(), new.as_str())?;
     check_acceptable(alloc, new.as_str())?;
     Ok(put_schema(alloc, id, new)?)
 }
 
-fn drop_schema(alloc: Global, catalog: &Catalog, name: &str) -> Result<Changes, Stop> {
+#[tactic(auto, unfolding(crate::specs::Schemas::dropped))]
+fn drop_schema(alloc: Global, catalog: &Catalog, name: &str) -> Result<Changes, Stop>
+    ensures { Gives (spec.dropped catalog.now name.now) result }
+{
     let id = schema_known(alloc, catalog.schemas(), name)?;
     check_empty(alloc, catalog.names(), id, name)?;
     Ok(with_touch_all(alloc, Change::DropSchema(id))?)
