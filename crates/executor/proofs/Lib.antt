@@ -2,6 +2,7 @@ mod Ascending
 mod Distinct
 mod Ends
 mod Firsts
+mod Joined
 mod Keys
 mod Matched
 mod RowOrders

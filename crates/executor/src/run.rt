@@ -1,4 +1,6 @@
-ghost use Rattle.std.specs.Prelude.{◌≡◌, take, IfOk};
+ghost use Rattle.std.specs.Prelude.{◌≡◌, None, take, IfOk};
+ghost use Rattle.std.specs.Option.{option_map};
+ghost use Rattle.executor.specs.Uniques.{numbered};
 ghost use Rattle.executor.specs.declared.stores.Stores.{Stores as Tables};
 ghost use Rattle.executor.specs.Cuts.{skipped, windowed};
 ghost use Rattle.executor.specs.Lists.{projected};
@@ -43,6 +45,7 @@ impl Run {
     pub fn start(alloc: Global, plan: Rc<Plan>, params: Row, snap: Snap) -> Result<Run, NoMemory>
         ensures rest { IfOk result (λ run. (stores : Tables) → rest_at run stores ≡ plans.plan_list stores snap params plan.value) }
         ensures snap { IfOk result (λ run. run.snap ≡ snap) }
+        ensures last { IfOk result (λ run. run.last ≡ None) }
     {
         laws::orders();
         Run::begun(alloc, plan, params, snap)
@@ -51,6 +54,7 @@ impl Run {
     fn begun(alloc: Global, plan: Rc<Plan>, params: Row, snap: Snap) -> Result<Run, NoMemory>
         ensures rest { IfOk result (λ run. (stores : Tables) → rest_at run stores ≡ starts.walk_list stores snap params plan.value) }
         ensures snap { IfOk result (λ run. run.snap ≡ snap) }
+        ensures last { IfOk result (λ run. run.last ≡ None) }
     {
         let node = &plan.block.node;
         let window = window_at(alloc, node, params.as_slice())?;
@@ -69,7 +73,9 @@ impl Run {
 
     /// The slot of the row that was given last, of a plan whose only scan is one of a table and that neither joins
     /// nor groups nor makes distinct. `None` before the first row, and for other plans. Takes no memory.
-    pub fn last_slot(&self) -> Option<SlotId> {
+    pub fn last_slot(&self) -> Option<SlotId>
+        ensures { result ≡ option_map numbered self.now.last }
+    {
         match self.last {
             Some(slot) => Some(SlotId(slot)),
             None => None,

@@ -12,4 +12,4 @@ pub returns-clause-rest : goal.returns-clause-rest
 returns-clause-rest c = IfOk-weaker c.begun.result _ _ (λ run walked stores.
     let block = c.args.plan.value.block in
     let params = c.args.params in
-    walked stores ∙ ap (λ rows. map outcome_of (windowed (window_at params block.node) (projected block.targets params rows))) (same_list c.orders.ensures.keys (scan_of stores c.args.snap) (along_of stores c.args.snap) params block.node)) c.begun.ensures.rest
+    walked stores ∙ ap (λ rows. map outcome_of (windowed (window_at params block.node) (projected block.targets params rows))) (same_list c.orders.ensures.keys c.orders.ensures.entries (scan_of stores c.args.snap) (along_of stores c.args.snap) params block.node)) c.begun.ensures.rest
