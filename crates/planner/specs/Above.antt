@@ -59,7 +59,7 @@ group_of query change = record {
   keys = map (changed change) query.keys;
   aggregates = map (changed_aggregate change) query.aggregates;
   having = map (changed change) query.having;
-  width = change.width
+  width = change.width;
 }
 
 abbrev pub with_groups : Node → Query → Changing → Node

@@ -52,7 +52,7 @@ abbrev pub index_scan : ℕ → List ColId → TableStats → List Target → Li
 index_scan place columns stats conds keys item switches = record {
   cost = charged (index_scan_cost (rows_in stats) (rows_found stats conds columns (equal_columns columns conds)) (length conds)) switches.indexscan;
   index = Some place;
-  delivers = delivers keys item columns
+  delivers = delivers keys item columns;
 }
 
 -- the least scan, the first of equal ones, and one that costs less than the least so far
