@@ -3,7 +3,7 @@
 
 ghost use Rattle.std.specs.Prelude.{◌≡◌, Ok, IfOk, OnOk, false};
 ghost use Rattle.savepoints.specs.Settings.{committed};
-ghost use Rattle.session_core.specs.State.{Does, Unstated, empty_state, settled};
+ghost use Rattle.session_core.specs.State.{Does, Unstated, empty_state, refused, settled};
 ghost use Rattle.session_core.specs.Machine as spec;
 ghost use Rattle.session_core.specs.Machine.{Stepped};
 
@@ -110,12 +110,19 @@ impl Machine {
                 Ok(())
             }
             Err(Stop::Sql(error)) => {
-                self.block.fail();
-                self.settle()?;
+                self.refuse()?;
                 Err(Stop::Sql(error))
             }
             Err(Stop::NoMemory) => Err(Stop::NoMemory),
         }
+    }
+
+    /// The end of a command that was refused.
+    fn refuse(&mut self) -> Result<(), NoMemory>
+        ensures { OnOk result (self.new ≡ settled (refused self.old)) }
+    {
+        self.block.fail();
+        self.settle()
     }
 
     /// The tokens of the text, the command that they spell, and then what it does.
@@ -367,9 +374,15 @@ impl Machine {
         ensures { OnOk result (self.new ≡ record self.old { settings = committed self.old.settings }) }
     {
         self.settle_catalog();
-        self.settings.commit();
+        self.settle_settings();
         self.stores.heaps.forget();
         self.stores.prune(self.alloc)
+    }
+
+    fn settle_settings(&mut self)
+        ensures { self.new ≡ record self.old { settings = committed self.old.settings } }
+    {
+        self.settings.commit();
     }
 
     fn settle_catalog(&mut self)
